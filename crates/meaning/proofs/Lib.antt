@@ -1,0 +1,3 @@
+pub mod Picks
+pub mod Turned
+pub mod Below

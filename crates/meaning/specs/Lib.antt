@@ -1,0 +1,5 @@
+pub mod Text
+pub mod Lines
+pub mod Pages
+pub mod Calls
+pub mod Promise

@@ -1,0 +1,9 @@
+-- What the present stage can do: kinds of tokens and calls, by their numbers. So far none.
+use mathlib.Core.Bool.{Bool, false}
+use Prim.Native.Nat.{ℕ}
+
+abbrev pub stage-tokens : ℕ → Bool
+stage-tokens k = false
+
+abbrev pub stage-calls : ℕ → Bool
+stage-calls k = false
