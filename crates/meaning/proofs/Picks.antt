@@ -1,5 +1,5 @@
 -- `pick` at a test that is known, and a goal under `pick` by both ways.
-use mathlib.Core.Path.{_≡_, refl, subst, sym}
+use mathlib.Core.Path.{_≡_, refl}
 use mathlib.Core.Bool.{Bool, true, false}
 use Rattle.meaning.specs.Text.{pick}
 

@@ -3,3 +3,4 @@ pub mod Lines
 pub mod Pages
 pub mod Calls
 pub mod Promise
+pub mod Examples
