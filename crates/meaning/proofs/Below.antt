@@ -1,11 +1,11 @@
 -- Rows of numbers below a bound.
-use mathlib.Core.Path.{_≡_, refl}
+use mathlib.Core.Path.{_≡_, refl, sym, _∙_}
 use mathlib.Core.Bool.{Bool, true, false, _&&_}
 use mathlib.Core.List.{List, [], _∷_, _++_}
 use Prim.Native.Nat.{ℕ, zero, suc, _<_}
 use lib.Dec.{ltb}
-use lib.ListN.{replicate}
-use Rattle.std.proofs.shelf.Tests.{lt-ltb, and-from}
+use lib.ListN.{getD, replicate}
+use Rattle.std.proofs.shelf.Tests.{lt-ltb, ltb-true, and-from, and-parts}
 use Rattle.meaning.specs.Promise.{all-below}
 
 pub all-below-more : (b x : ℕ) (xs : List ℕ) → x < b → all-below b xs ≡ true → all-below b (x ∷ xs) ≡ true
@@ -28,3 +28,15 @@ all-below-append b (x ∷ xs) ys = step (ltb x b) (all-below b (xs ++ ys)) (all-
 pub all-below-replicate : (b n x : ℕ) → x < b → all-below b (replicate n x) ≡ true
 all-below-replicate b zero x h = all-below-none b
 all-below-replicate b (suc n) x h = all-below-more b x (replicate n x) h (all-below-replicate b n x h)
+
+pub all-below-parts : (b : ℕ) (xs ys : List ℕ) → all-below b (xs ++ ys) ≡ true → (all-below b xs ≡ true) × (all-below b ys ≡ true)
+all-below-parts b xs ys h = and-parts (all-below b xs) (all-below b ys) (sym (all-below-append b xs ys) ∙ h)
+
+pub all-below-both : (b : ℕ) (xs ys : List ℕ) → all-below b xs ≡ true → all-below b ys ≡ true → all-below b (xs ++ ys) ≡ true
+all-below-both b xs ys h k = all-below-append b xs ys ∙ and-from (all-below b xs) (all-below b ys) h k
+
+pub getD-below : (b : ℕ) (xs : List ℕ) (i d : ℕ) → d < b → all-below b xs ≡ true → getD xs i d < b
+unfolding all-below
+getD-below b [] i d h t = h
+getD-below b (x ∷ xs) zero d h t = ltb-true x b (and-parts (ltb x b) (all-below b xs) t .0)
+getD-below b (x ∷ xs) (suc i) d h t = getD-below b xs i d h (and-parts (ltb x b) (all-below b xs) t .1)

@@ -11,15 +11,16 @@ use Rattle.std.specs.Iters.{counting}
 use Rattle.std.specs.declared.option.Option.the-variants.{Some, None}
 use Rattle.std.proofs.shelf.Edits.{fill-by-more}
 use Rattle.std.proofs.shelf.Lists.{append-assoc, length-append, length-replicate, length-take-le, drop-append-le, drop-replicate, replicate-append-replicate}
-use Rattle.std.proofs.shelf.Tests.{leb-true, lt-ltb, and-from}
+use Rattle.std.proofs.shelf.Tests.{leb-true, lt-ltb}
 use Rattle.meaning.specs.Calls
 use Rattle.meaning.specs.Pages
 use Rattle.meaning.specs.Promise.{Good-looks, Good-limits, all-below}
 use Rattle.meaning.specs.Text.{pick}
-use Rattle.meaning.proofs.Below.{all-below-none, all-below-more, all-below-append, all-below-replicate}
+use Rattle.meaning.proofs.Below.{all-below-none, all-below-more, all-below-both, all-below-replicate}
+use Rattle.wire.specs.Bytes.{over}
 use Rattle.store.specs.declared.opening.Limits.{Limits}
 use Rattle.store.specs.declared.opening.Looks.{Looks}
-use Rattle.store.specs.Opened.{looks-of, packed, packed-widths, header, header-of, tokens-asked, kept-asked, words-asked, rest-asked, opened, rest-of, over, Opened-sound}
+use Rattle.store.specs.Opened.{looks-of, packed, packed-widths, header, header-of, tokens-asked, kept-asked, words-asked, rest-asked, opened, rest-of, Opened-sound}
 
 pub widths-more : (g : Looks) (xs : List ℕ) (i w : ℕ) → i < 12 → length xs ≡ 12 → w ≡ packed (looks-of g .wide) (32 + 8 * i) →
     ((k : ℕ) → k < i → getD xs k 0 ≡ packed (looks-of g .wide) (32 + 8 * k)) →
@@ -85,9 +86,6 @@ packed-below g good c =
 all-below-map : (b : ℕ) (f : ℕ → ℕ) (xs : List ℕ) → ((x : ℕ) → f x < b) → all-below b (map f xs) ≡ true
 all-below-map b f [] h = all-below-none b
 all-below-map b f (x ∷ xs) h = all-below-more b (f x) (map f xs) (h x) (all-below-map b f xs h)
-
-all-below-both : (b : ℕ) (xs ys : List ℕ) → all-below b xs ≡ true → all-below b ys ≡ true → all-below b (xs ++ ys) ≡ true
-all-below-both b xs ys p q = all-below-append b xs ys ∙ and-from (all-below b xs) (all-below b ys) p q
 
 header-below : (l : Calls.Limits) (g : Pages.Looks) → Good-looks g → Good-limits l → all-below 18446744073709551616 (header l g) ≡ true
 unfolding header all-below

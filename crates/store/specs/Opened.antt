@@ -6,11 +6,11 @@
 --   Opens                 what opening answers, and leaves in both slices
 --   In-range-good, Opened-sound   laws: what is let through is good, and what is opened is as large as asked for
 use mathlib.Core.Path.{_≡_}
-use mathlib.Core.Bool.{Bool, true, false, cond, _&&_}
+use mathlib.Core.Bool.{Bool, true, cond, _&&_}
 use mathlib.Core.List.{List, [], _∷_, _++_, map}
 use Prim.Native.Nat.{ℕ, _+_, _*_, _-_, _≤_}
 use lib.Dec.{leb}
-use lib.ListN.{length, getD, drop, replicate}
+use lib.ListN.{length, getD, replicate}
 use Rattle.std.specs.declared.option.Option.{Option}
 use Rattle.std.specs.declared.option.Option.the-variants.{Some, None}
 use Rattle.std.specs.declared.result.Result.{Result}
@@ -21,6 +21,7 @@ use Rattle.meaning.specs.Text.{pick}
 use Rattle.meaning.specs.Pages
 use Rattle.meaning.specs.Calls
 use Rattle.meaning.specs.Promise.{Memory, Good-looks, Good-limits, all-below}
+use Rattle.wire.specs.Bytes.{over}
 use Rattle.wire.specs.Stage.{stage-tokens, stage-calls}
 use Rattle.wire.specs.declared.refusal.Refusal.{Refusal}
 use Rattle.wire.specs.declared.refusal.Refusal.the-variants.{ShortTokens, ShortRest, BadOpening}
@@ -92,10 +93,6 @@ opened l g =
 -- numbers are lent in one slice: what is kept, then the words
 abbrev pub rest-of : Memory → List ℕ
 rest-of m = m .kept ++ m .words
-
--- a slice that is longer than asked for keeps its tail
-abbrev pub over : List ℕ → List ℕ → List ℕ
-over xs ys = xs ++ drop (length xs) ys
 
 -- what is out of range comes first, then the bytes for tokens, then the numbers
 abbrev pub opening : Limits → Looks → ℕ → ℕ → Result (Unit {0}) Refusal

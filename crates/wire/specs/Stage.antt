@@ -2,8 +2,8 @@
 use mathlib.Core.Bool.{Bool, false}
 use Prim.Native.Nat.{ℕ}
 
-abbrev pub stage-tokens : ℕ → Bool
+unfoldable pub stage-tokens : ℕ → Bool
 stage-tokens k = false
 
-abbrev pub stage-calls : ℕ → Bool
+unfoldable pub stage-calls : ℕ → Bool
 stage-calls k = false

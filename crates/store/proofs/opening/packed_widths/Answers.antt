@@ -1,8 +1,6 @@
-use mathlib.Core.Path.{subst, _∙_}
+use mathlib.Core.Path.{_∙_}
 use native.Mathlib.Omega.{arith}
-use borrow.Author.Needs.{needs}
 use Rattle.std.proofs.shelf.Counted.{fill-by-all}
-use Rattle.std.proofs.shelf.Edits.{fill-by-more}
 use Rattle.std.proofs.shelf.Lists.{length-set}
 use Rattle.store.proofs.opening.packed_widths.Needs as need
 use Rattle.store.proofs.Fresh.{widths-more}

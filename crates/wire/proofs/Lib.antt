@@ -1,0 +1,10 @@
+pub mod Parses
+pub mod Courses
+pub mod Fields
+pub mod Readings
+pub mod Answered
+pub mod Levels
+pub mod Firsts
+pub mod Heads
+pub mod Sizes
+pub mod Overs
