@@ -16,6 +16,7 @@ use Rattle.meaning.specs.Calls
 use Rattle.meaning.specs.Pages
 use Rattle.meaning.specs.Promise.{Good-looks, Good-limits, all-below}
 use Rattle.meaning.specs.Text.{pick}
+use Rattle.meaning.proofs.Picks.{some-picked}
 use Rattle.meaning.proofs.Below.{all-below-none, all-below-more, all-below-both, all-below-replicate}
 use Rattle.wire.specs.Bytes.{over}
 use Rattle.store.specs.declared.opening.Limits.{Limits}
@@ -36,11 +37,6 @@ header-with l g ws e =
 pub length-header : (l : Calls.Limits) (g : Pages.Looks) → length (header l g) ≡ 64
 unfolding header
 length-header l g = refl
-
--- a value that a test lets through is the one it was given
-pub some-picked : {A : Type 0} (b : Bool) (a x : A) → Some a ≡ pick b (Some x) None → (b ≡ true) × (a ≡ x)
-some-picked true a x e = (refl, cc)
-some-picked false a x e = let z : _≡_ {A = ℕ} 0 1 = cc in absurd (let n : ⊥ = omega arith in n)
 
 pub at-most-some : (a n b : ℕ) → Some b ≡ pick (leb a n) (Some a) None → (a ≤ n) × (b ≡ a)
 at-most-some a n b e = let p = some-picked (leb a n) b a e in (leb-true a n (p .0), p .1)

@@ -1,2 +1,4 @@
 mod Within
 mod Fresh
+mod Tables
+mod Looking

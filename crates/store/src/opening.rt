@@ -5,7 +5,7 @@ ghost use lib.ListN.{length, getD};
 ghost use lib.Dec.{leb};
 ghost use Rattle.std.specs.declared.option.Option.the-variants.{Some, None};
 ghost use Rattle.meaning.specs.Text.{pick};
-ghost use Rattle.store.specs.Opened.{all-within, limits-in-range, looks-in-range, asking, looks-of, packed, packed-widths, header-of, Opens, In-range-good, Opened-sound};
+ghost use Rattle.store.specs.Opened.{all-within, limits-in-range, looks-in-range, limits-of, looks-of, tokens-asked, rest-asked, asking, packed, packed-widths, header-of, Opens, In-range-good, Opened-sound};
 use wire::Refusal;
 
 // The most that a book may have. In range: 4,096 paragraphs, 65,536 tokens, 1,024 definitions, and 4,096 for a paragraph's bulk.
@@ -40,6 +40,19 @@ impl Limits {
             && self.tokens <= 65536
             && self.definitions <= 1024
             && self.bulk <= 4096
+    }
+
+    pub(crate) fn bytes_asked(&self) -> usize
+        ensures { λ r. ⌜ r ≡ tokens-asked (limits-of (now (self .entry))) ⌝ }
+    {
+        4 * self.tokens as usize
+    }
+
+    pub(crate) fn rest_asked(&self) -> usize
+        ensures { λ r. ⌜ r ≡ rest-asked (limits-of (now (self .entry))) ⌝ }
+    {
+        let all = self.paragraphs as usize + self.tokens as usize + self.definitions as usize;
+        8 * all + 32 * self.bulk as usize + 4096
     }
 }
 
@@ -87,11 +100,9 @@ impl Asked {
         if !looks.in_range() {
             return None;
         }
-        let paragraphs = limits.paragraphs as usize;
-        let lasting = limits.tokens as usize + limits.definitions as usize;
         Some(Asked {
-            tokens: 4 * limits.tokens as usize,
-            rest: 8 * (paragraphs + lasting) + 32 * limits.bulk as usize + 4096,
+            tokens: limits.bytes_asked(),
+            rest: limits.rest_asked(),
         })
     }
 }

@@ -11,6 +11,7 @@ use Rattle.std.proofs.shelf.Lists.{length-append, length-push}
 use Rattle.meaning.specs.Text.{pick, Tokens, none, written, all-written}
 use Rattle.meaning.specs.Text
 use Rattle.meaning.specs.Calls.{size, size-of, good, good-one}
+use Rattle.meaning.proofs.Picks.{some-picked, none-picked}
 use Rattle.wire.specs.Bytes.{tokens-of}
 use Rattle.wire.specs.Cut.{token-of, First, Whole-part}
 use Rattle.wire.specs.Fit.{bytes-of, Measures-one}
@@ -38,15 +39,6 @@ written-length (Note part) w = omega (arith, enclosed-length (part .now) w)
 written-length (Command k part) w = omega (arith, enclosed-length (part .now) w)
 written-length Given w = refl
 
--- what a test lets through, and what it does not
-some-or-none : (a : Bool) (n s : ℕ) → Some n ≡ pick a (Some s) None → (a ≡ true) × (n ≡ s)
-some-or-none true n s e = (refl, cc)
-some-or-none false n s e = let z : _≡_ {A = ℕ} 0 1 = cc in absurd (omega arith)
-
-none-or-some : (a : Bool) (s : ℕ) → None ≡ pick a (Some s) None → a ≡ false
-none-or-some true s e = let z : _≡_ {A = ℕ} 0 1 = cc in absurd (omega arith)
-none-or-some false s e = refl
-
 counted-first : (n : ℕ) (t : Text.Token) (ts : Tokens) (d m : ℕ) → (good-one stage-tokens t d ≡ true) × (m ≡ size-of t) → counted-tokens n (Text.more t ts) d ≡ counted-tokens (n + m) ts d
 counted-first n t ts d m p =
     let sum : n + (size-of t + size ts) ≡ n + m + size ts = omega (arith, p .1) in
@@ -57,11 +49,11 @@ module _ (bs : List ℕ) (t : Token) (rest : List ℕ) (d : ℕ) (first : First 
   pub counted-more : (n m : ℕ) → Measures-one t d (Some m) → counted-on n bs d ≡ counted-on (n + m) rest d
   counted-more n m one =
       ap (λ ts. counted-tokens n ts d) (first .tokens)
-      ∙ counted-first n (token-of t) (tokens-of rest) d m (some-or-none (good-one stage-tokens (token-of t) d) m (size-of (token-of t)) (one .value))
+      ∙ counted-first n (token-of t) (tokens-of rest) d m (some-picked (good-one stage-tokens (token-of t) d) m (size-of (token-of t)) (one .value))
 
   pub counted-fails : (n : ℕ) → Measures-one t d None → counted-on n bs d ≡ None
   counted-fails n one =
-      ap (λ ts. counted-tokens n ts d) (first .tokens) ∙ rw (none-or-some (good-one stage-tokens (token-of t) d) (size-of (token-of t)) (one .value)) refl
+      ap (λ ts. counted-tokens n ts d) (first .tokens) ∙ rw (none-picked (good-one stage-tokens (token-of t) d) (size-of (token-of t)) (one .value)) refl
 
   pub shorter : bytes-of t + length rest ≡ length bs
   shorter = omega (arith, ap length (first .form) ∙ length-append (written (token-of t)) rest, written-length t (first .part))

@@ -4,7 +4,8 @@ use native.Mathlib.Omega.{arith}
 use borrow.Author.Needs.{needs}
 use lib.ListN.{length}
 use Rattle.store.specs.Opened.{in-range, limits-of, looks-of, tokens-asked, rest-asked}
-use Rattle.store.proofs.Fresh.{some-picked, at-most-some, fresh-tokens, fresh-rest}
+use Rattle.meaning.proofs.Picks.{some-picked}
+use Rattle.store.proofs.Fresh.{at-most-some, fresh-tokens, fresh-rest}
 use Rattle.store.proofs.opening.open.Needs as need
 
 pub returns : need.returns
