@@ -1,4 +1,5 @@
-mod Within
-mod Fresh
-mod Tables
-mod Looking
+pub mod Within
+pub mod Fresh
+pub mod Tables
+pub mod Looking
+pub mod OpenedBook

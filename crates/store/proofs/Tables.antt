@@ -1,13 +1,14 @@
 -- The entries of paragraphs, added up.
-use mathlib.Core.Path.{_≡_, refl, ap}
+use mathlib.Core.Path.{_≡_, refl, ap, ap₂}
 use mathlib.Core.Bool.{false}
 use mathlib.Core.List.{List}
 use mathlib.Core.Logic.{inl, inr}
-use Prim.Native.Nat.{ℕ, zero, suc, _+_, _*_, _-_, _≤_, _<_}
+use Prim.Native.Nat.{ℕ, zero, suc, _+_, _*_, _≤_, _<_}
 use native.Mathlib.Omega.{arith}
 use native.Mathlib.Numerals.{add-one}
 use lib.Dec.{eqb}
-use lib.ListN.{getD}
+use lib.ListN.{getD, take}
+use Rattle.std.proofs.shelf.Lists.{getD-take}
 use Rattle.std.proofs.shelf.Tests.{ne-eqb, cases-order}
 use Rattle.store.specs.Kept.{table-sum}
 
@@ -32,3 +33,8 @@ table-sum-le first n (suc m) rs h =
 pub table-too-much : (first i n : ℕ) (rs : List ℕ) (left total : ℕ) → i < n → table-sum first i rs + left ≡ total → left < getD rs (first + 4 * i) 0 → eqb (table-sum first n rs) total ≡ false
 table-too-much first i n rs left total h e over =
     ne-eqb (table-sum first n rs) total (λ same. omega (arith, table-sum-more first i rs, table-sum-le first (i + 1) n rs (omega arith)))
+
+pub table-sum-take : (first n k : ℕ) (rs : List ℕ) → first + 4 * n ≤ k + 3 → table-sum first n (take k rs) ≡ table-sum first n rs
+unfolding table-sum
+table-sum-take first zero k rs h = refl
+table-sum-take first (suc n) k rs h = ap₂ _+_ (table-sum-take first n k rs (omega arith)) (getD-take k rs (first + 4 * n) 0 (omega arith))
