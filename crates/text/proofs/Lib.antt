@@ -1,0 +1,4 @@
+mod Numbers
+mod Pieces
+mod Sames
+mod Tables
