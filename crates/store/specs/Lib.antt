@@ -1,2 +1,5 @@
 pub mod Opened
 pub mod Kept
+pub mod Changes
+pub mod Splices
+pub mod Edits

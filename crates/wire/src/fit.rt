@@ -5,11 +5,11 @@ ghost use Rattle.wire.specs.Fit.{kind-of, Measures-one, Measures-enclosed, Mea
 use crate::token::Token;
 use crate::token::next_token;
 
-// Kinds of tokens that the stage can do: so far none.
+// Kinds of tokens that the stage can do: letters and spaces.
 fn stage_can(kind: u8) -> bool
     ensures { λ r. ⌜ r ≡ stage-tokens kind ⌝ }
 {
-    false
+    kind < 2
 }
 
 fn kind(token: Token<'_>) -> u8
