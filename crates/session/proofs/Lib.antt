@@ -1,2 +1,3 @@
-mod Promises
 mod Cuts
+mod Performed
+mod Wishes

@@ -1,1 +1,1 @@
-pub mod Setter
+pub mod Answering

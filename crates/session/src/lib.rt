@@ -1,12 +1,8 @@
 // A session with a book in lent memory: it is opened, and calls are answered, bytes in and bytes out.
 mod answering;
-mod promise;
 
 pub use answering::ROOM;
 pub use answering::call;
-pub use promise::enough_memory;
-pub use promise::refusal_keeps;
-pub use promise::right;
 pub use store::Asked;
 pub use store::Limits;
 pub use store::Looks;

@@ -33,7 +33,7 @@ pub record Numbers-of (ts rs : List ℕ) (k : Kept) : Type 0 where
   pub bytes-add-up : table-sum 64 (k .paragraphs) rs ≡ k .bytes
   pub sizes-add-up : table-sum 65 (k .paragraphs) rs ≡ k .size
 
-numbers-at : (ts rs : List ℕ) → is-open (length ts) rs ≡ true → Numbers-of ts rs (kept-at rs)
+pub numbers-at : (ts rs : List ℕ) → is-open (length ts) rs ≡ true → Numbers-of ts rs (kept-at rs)
 numbers-at ts rs e =
     let p = open-parts (length ts) rs e in
     let l = and-parts _ _ (p .limits) in

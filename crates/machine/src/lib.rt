@@ -1,7 +1,7 @@
-// The main promise, for the stage: each statement is the contract of a function that does nothing, so that the check asks for its proof.
+// The main promise about the machine, for the stage: each statement is the contract of a function that does nothing, so that the check asks for its proof.
 ghost use Rattle.meaning.specs.Promise.{Right, Refusal-keeps, Enough-memory};
 ghost use Rattle.wire.specs.Stage.{stage-tokens, stage-calls};
-ghost use Rattle.session.specs.Setter.{setter};
+ghost use Rattle.machine.specs.Setter.{setter};
 
 // For every list of calls, each answer is that of the text as the calls left it, set from nothing.
 pub fn right()

@@ -1,0 +1,10 @@
+pub mod Splices
+pub mod Rows
+pub mod Memories
+pub mod Edits
+pub mod Fits
+pub mod OpenText
+pub mod Steps
+pub mod ByCall
+pub mod Bounds
+pub mod Promises
