@@ -1,3 +1,4 @@
+mod Back
 pub mod Within
 pub mod Fresh
 pub mod Tables

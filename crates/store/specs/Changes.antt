@@ -4,6 +4,7 @@
 --   edited-tokens, edited-rest   both slices after an edit
 --   has-room             whether the limits allow it
 --   put-edit, put-in-edit, cut-edit   the three calls as edits
+--   paragraph-at         a paragraph's bytes, read back
 --   Changes              what a change answers, and leaves in both slices
 use mathlib.Core.Path.{_≡_}
 use mathlib.Core.Bool.{Bool, cond, _&&_}
@@ -11,6 +12,8 @@ use mathlib.Core.List.{List, [], _∷_, _++_}
 use Prim.Native.Nat.{ℕ, _+_, _*_, _-_, max}
 use lib.Dec.{leb, ltb, eqb}
 use lib.ListN.{length, getD, set, take, drop, replicate}
+use Rattle.std.specs.declared.option.Option.{Option}
+use Rattle.std.specs.declared.option.Option.the-variants.{Some, None}
 use Rattle.std.specs.declared.result.Result.{Result}
 use Rattle.std.specs.declared.result.Result.the-variants.{Ok, Err}
 use Rattle.std.specs.Results.{isOk}
@@ -82,3 +85,8 @@ pub record Changes (e : Edit) (ts rs ts′ rs′ : List ℕ) (r : Result (Unit {
   pub value : r ≡ editing e (length ts) rs
   pub tokens : ts′ ≡ cond (isOk r) (edited-tokens e ts rs) ts
   pub rest : rs′ ≡ cond (isOk r) (edited-rest e rs) rs
+
+-- paragraph k stands behind the bytes of those before it
+abbrev pub paragraph-at : List ℕ → List ℕ → ℕ → Option (List ℕ)
+paragraph-at ts rs k =
+    pick (is-open (length ts) rs && ltb k (getD rs 4 0)) (Some (take (getD rs (64 + 4 * k) 0) (drop (table-sum 64 k rs) ts))) None

@@ -24,7 +24,7 @@ struct Change<'a> {
 }
 
 // What stands in the entries of the first n paragraphs, at the place that is `first` in the first one.
-fn sum_of(rest: &[u64], first: usize, n: usize) -> usize
+pub fn sum_of(rest: &[u64], first: usize, n: usize) -> usize
     requires { ⌜ first + 4 * n ≤ length (now rest) + 3 ⌝ }
     requires { ⌜ table-sum first n (now rest) < 2 ^ 63 ⌝ }
     ensures { λ r. ⌜ r ≡ table-sum first n (now (rest .entry)) ⌝ }

@@ -2,6 +2,7 @@
 mod changes;
 mod kept;
 mod opening;
+mod reading;
 mod splice;
 
 pub use changes::cut;
@@ -14,3 +15,4 @@ pub use opening::Limits;
 pub use opening::Looks;
 pub use opening::open;
 pub use opening::opening_is_sound;
+pub use reading::paragraph;
