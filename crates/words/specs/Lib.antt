@@ -1,0 +1,3 @@
+pub mod Atoms
+pub mod Slots
+pub mod Laws
