@@ -2,6 +2,8 @@
 use session::Asked;
 use session::Limits;
 use session::Looks;
+use session::ROOM;
+use session::call;
 use session::open;
 use std::alloc::Global;
 use std::env;
@@ -13,7 +15,10 @@ use text::FaultDisplay;
 use text::Outcome;
 use text::OutcomeDisplay;
 use text::Reader;
+use text::Shown;
+use text::ShownDisplay;
 use text::Step;
+use wire::Refusal;
 
 const HELP: &str = "\
 answer [FILE]
@@ -24,27 +29,51 @@ A book begins with the four lines
     widths space 4 i 3 l 3 others 6
     width WIDTH
     rows ROWS
-and a file may hold several books. Empty lines and lines that begin with # are passed over.
+and then come the calls
+    put K TOKENS    put in K TOKENS    cut K    define C TOKENS
+    show PAGE ROW COUNT    where is NAME    how many    bytes 00 00 00
+A file may hold several books. Empty lines and lines that begin with # are passed over.
 A line that can't be read ends the program with status 1, and is told on standard error.";
 
-// The lent memory of a book.
+// The lent memory of a book, and room for an answer.
 #[derive(Drop)]
 struct Memory {
     tokens: Vec<u8>,
     rest: Vec<u64>,
+    out: Vec<u8>,
 }
 
 impl Memory {
-    // What the limits ask for; none where they are out of range.
-    fn asked(heap: Global, limits: &Limits, looks: &Looks) -> io::Result<Memory> {
+    // Before a book is opened.
+    fn none(heap: Global) -> io::Result<Memory> {
+        Ok(Memory {
+            tokens: Vec::new(heap),
+            rest: Vec::new(heap),
+            out: vec![in heap; 0u8; ROOM]?,
+        })
+    }
+
+    // What the limits ask for; nothing where they are out of range.
+    fn open(
+        &mut self,
+        heap: Global,
+        limits: &Limits,
+        looks: &Looks,
+    ) -> io::Result<Result<(), Refusal>> {
         let (tokens, rest) = match Asked::of(limits, looks) {
             Some(asked) => (asked.tokens, asked.rest),
             None => (0, 0),
         };
-        Ok(Memory {
-            tokens: vec![in heap; 0u8; tokens]?,
-            rest: vec![in heap; 0u64; rest]?,
-        })
+        self.tokens = vec![in heap; 0u8; tokens]?;
+        self.rest = vec![in heap; 0u64; rest]?;
+        Ok(open(&mut self.tokens, &mut self.rest, limits, looks))
+    }
+
+    // The answer's bytes.
+    fn call(&mut self, bytes: &[u8]) -> &[u8] {
+        let written = call(&mut self.tokens, &mut self.rest, bytes, &mut self.out);
+        let n = written.unwrap_or(0).min(self.out.len());
+        &self.out[0..n]
     }
 }
 
@@ -57,31 +86,39 @@ fn without_end(line: &[u8]) -> &[u8] {
     }
 }
 
-fn answer_line(rt: &LibcRuntime, reader: &mut Reader, step: Step) -> io::Result<()> {
+fn answer_step(
+    rt: &LibcRuntime,
+    reader: &mut Reader,
+    memory: &mut Memory,
+    step: Step,
+) -> io::Result<()> {
     match step {
         Step::Nothing => Ok(()),
         Step::Open(limits, looks) => {
-            let mut memory = Memory::asked(rt.alloc(), &limits, &looks)?;
-            let outcome = open(&mut memory.tokens, &mut memory.rest, &limits, &looks);
+            let outcome = memory.open(rt.alloc(), &limits, &looks)?;
             if outcome.is_err() {
                 reader.refused();
             }
-            let outcome = Outcome(outcome);
-            println!(rt, "{outcome}")
+            rt.println(Outcome(outcome))
+        }
+        Step::Call(question, bytes) => {
+            let bytes = memory.call(&bytes);
+            rt.println(Shown { question, bytes })
         }
     }
 }
 
 fn answer_all<B: BufRead + Drop>(rt: &LibcRuntime, mut input: B) -> io::Result<()> {
     let mut reader = Reader::new();
+    let mut memory = Memory::none(rt.alloc())?;
     let mut line = Vec::new(rt.alloc());
     for n in 1..u64::MAX {
         line.clear();
         if input.read_until(b'\n', &mut line)? == 0 {
             break;
         }
-        match reader.read(without_end(&line)) {
-            Ok(step) => answer_line(rt, &mut reader, step)?,
+        match reader.read(rt.alloc(), without_end(&line)) {
+            Ok(step) => answer_step(rt, &mut reader, &mut memory, step)?,
             Err(fault) => {
                 eprintln!(rt, "line {n}: {fault}")?;
                 return Err(io::Error::from(io::ErrorKind::InvalidData));

@@ -11,8 +11,9 @@ use Rattle.std.specs.declared.result.Result.the-variants.{Ok, Err}
 use Rattle.std.proofs.shelf.Lists.{at-drop-more, at-drop-all, take-all}
 use Rattle.std.proofs.shelf.Sums.{folded-more}
 use Rattle.std.proofs.shelf.Tests.{and-left, lt-ltb, le-ltb}
+use Rattle.notation.specs.Numbers.{value-of}
 use Rattle.text.specs.declared.fault.Fault.the-variants.{NoNumber, TooLarge}
-use Rattle.text.specs.Words.{value-of, number-of}
+use Rattle.text.specs.Words.{number-of}
 
 -- how far a word has been read: so many bytes, which are digits, and say n
 pub record Read (w : List ℕ) (i n : ℕ) : Type 0 where

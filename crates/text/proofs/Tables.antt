@@ -15,12 +15,13 @@ use Rattle.std.specs.declared.result.Result.{Result}
 use Rattle.std.specs.declared.result.Result.the-variants.{Ok, Err}
 use Rattle.std.proofs.shelf.Lists.{getD-set-same, getD-set-other, length-set}
 use Rattle.std.proofs.shelf.Tests.{cases-eq, eq-eqb, ne-eqb}
+use Rattle.notation.specs.Steps.{then}
+use Rattle.notation.proofs.Thens.{no-ok}
 use Rattle.text.specs.declared.fault.Fault.{Fault}
 use Rattle.text.specs.declared.fault.Fault.the-variants.{NumberMissing}
 use Rattle.text.specs.declared.widths.Key.{Key}
 use Rattle.text.specs.declared.widths.Key.the-variants.{Letter, Others}
 use Rattle.text.specs.declared.widths.Table.{Table}
-use Rattle.text.specs.Words.{then}
 use Rattle.text.specs.Widths.{key-of, Has-width, width-of, next-width, pairs-of, named, others, table, widths-of, blank, put, filled}
 
 -- the widths, where pairs come after what a table has
@@ -84,9 +85,6 @@ pub record Pair-read (ws rest : List (List ℕ)) (key : Key) (n : ℕ) : Type 0 
 -- what the next width is read as
 abbrev Read : Type 0
 Read = Result (ℕ × List (List ℕ)) Fault
-
-no-ok : {A : Type 0} (P : Type 0) (x : A) (e : Fault) → Ok x ≡ Err e → P
-no-ok P x e same = let z : _≡_ {A = ℕ} 0 1 = cc in absurd (let no : ⊥ = omega arith in no)
 
 pub pair-read : (name : List ℕ) (ws rest : List (List ℕ)) (key : Key) (n : ℕ) → Ok key ≡ key-of name → _≡_ {A = Read} (Ok (n, rest)) (next-width ws) → Pair-read (name ∷ ws) rest key n
 pair-read name [] rest key n k e = no-ok _ (n, rest) NumberMissing e

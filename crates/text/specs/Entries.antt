@@ -14,13 +14,14 @@ use Rattle.std.specs.declared.option.Option.the-variants.{Some, None}
 use Rattle.std.specs.declared.result.Result.{Result}
 use Rattle.std.specs.declared.result.Result.the-variants.{Ok, Err}
 use Rattle.store.specs.declared.opening.Limits.{Limits}
+use Rattle.notation.specs.Steps.{then}
 use Rattle.text.specs.declared.entry.Entry.{Entry}
 use Rattle.text.specs.declared.entry.Entry.the-variants as entry
 use Rattle.text.specs.declared.entry.Keyword.{Keyword}
 use Rattle.text.specs.declared.entry.Keyword.the-variants as keyword
 use Rattle.text.specs.declared.fault.Fault.{Fault}
 use Rattle.text.specs.declared.fault.Fault.the-variants.{Unknown}
-use Rattle.text.specs.Words.{first-word, words-behind, then, next-number, last-number}
+use Rattle.text.specs.Words.{first-word, words-behind, next-number, last-number}
 use Rattle.text.specs.Widths.{widths-of}
 
 unfoldable pub keyword-of : List ℕ → Option Keyword

@@ -17,12 +17,13 @@ use Rattle.std.specs.declared.option.Option.{Option}
 use Rattle.std.specs.declared.option.Option.the-variants.{Some, None}
 use Rattle.std.specs.declared.result.Result.{Result}
 use Rattle.std.specs.declared.result.Result.the-variants.{Ok, Err}
+use Rattle.notation.specs.Steps.{then}
 use Rattle.text.specs.declared.fault.Fault.{Fault}
 use Rattle.text.specs.declared.fault.Fault.the-variants.{NumberMissing, TooLarge, NoLetter}
 use Rattle.text.specs.declared.widths.Key.{Key}
 use Rattle.text.specs.declared.widths.Key.the-variants.{Letter, Others}
 use Rattle.text.specs.declared.widths.Table.{Table}
-use Rattle.text.specs.Words.{number-of, then}
+use Rattle.text.specs.Words.{number-of}
 
 -- any letter but the space stands for itself
 abbrev pub letter-of : List ℕ → Result Key Fault

@@ -2,19 +2,26 @@
 --   pieces                     a text cut at each space; a piece has no bytes where two spaces meet
 --   words                      the pieces that have bytes
 --   first-word, words-behind   the first piece, which has no bytes where a space comes first, and the words behind it
---   value-of, number-of        what digits say, and what a word says that is to be a number
---   then                       goes on with what was read, and ends at a fault
+--   behind-word                what stands behind the first piece, from its space on
+--   parted                     the first of the words, and what stands behind it
+--   number-of                  what a word says that is to be a number
 --   next-number, last-number   the number that the first of some words says, with the other words, or with no others allowed
+--   next-field, last-field     the same for a number that two bytes can carry
+--   number-and-text            such a number, and what stands behind one space after it
 use mathlib.Core.Bool.{Bool, true, false, not, cond}
 use mathlib.Core.List.{List, [], _∷_}
-use Prim.Native.Nat.{ℕ, _+_, _*_, _-_}
+use Prim.Native.Nat.{ℕ}
 use denote.Ref.{RefT}
 use lib.Dec.{eqb, ltb}
-use Rattle.std.specs.Iters.{folded}
-use Rattle.std.specs.shelf.Lists.{kept-by}
+use lib.ListN.{drop}
+use Rattle.std.specs.shelf.Lists.{kept-by, leading}
 use Rattle.std.specs.shelf.Text.{allDigits}
+use Rattle.std.specs.declared.option.Option.{Option}
+use Rattle.std.specs.declared.option.Option.the-variants.{Some, None}
 use Rattle.std.specs.declared.result.Result.{Result}
 use Rattle.std.specs.declared.result.Result.the-variants.{Ok, Err}
+use Rattle.notation.specs.Numbers.{value-of}
+use Rattle.notation.specs.Steps.{then}
 use Rattle.text.specs.declared.fault.Fault.{Fault}
 use Rattle.text.specs.declared.fault.Fault.the-variants.{NumberMissing, NoNumber, TooLarge, TooMuch}
 
@@ -57,16 +64,20 @@ first-word bs = first-piece (pieces bs)
 unfoldable pub words-behind : List ℕ → List (List ℕ)
 words-behind bs = non-empty (other-pieces (pieces bs))
 
-abbrev pub value-of : List ℕ → ℕ
-value-of ds = folded (λ n d. 10 * n + (d - 48)) 0 ds
+unfoldable pub behind-word : List ℕ → List ℕ
+behind-word bs = drop (leading no-space bs) bs
+
+abbrev pub parted-at : List ℕ → Option (List ℕ × List ℕ)
+parted-at [] = None
+parted-at (b ∷ bs) = Some (first-word (b ∷ bs), behind-word (b ∷ bs))
+
+-- spaces in front don't count
+unfoldable pub parted : List ℕ → Option (List ℕ × List ℕ)
+parted bs = parted-at (drop (leading is-space bs) bs)
 
 -- there is at least one digit, since a word has bytes
 unfoldable pub number-of : List ℕ → Result ℕ Fault
 number-of w = cond (allDigits w) (cond (ltb (value-of w) 4294967296) (Ok (value-of w)) (Err TooLarge)) (Err NoNumber)
-
-abbrev pub then : {A B : Type 0} → Result A Fault → (A → Result B Fault) → Result B Fault
-then (Ok x) f = f x
-then (Err e) f = Err e
 
 abbrev pub next-number : List (List ℕ) → Result (ℕ × List (List ℕ)) Fault
 next-number [] = Err NumberMissing
@@ -78,6 +89,27 @@ nothing-after (x, w ∷ ws) = Err TooMuch
 
 abbrev pub last-number : List (List ℕ) → Result ℕ Fault
 last-number ws = then (next-number ws) nothing-after
+
+abbrev pub field : ℕ → Result ℕ Fault
+field n = cond (ltb n 65536) (Ok n) (Err TooLarge)
+
+abbrev pub next-field : List (List ℕ) → Result (ℕ × List (List ℕ)) Fault
+next-field ws = then (next-number ws) (λ p. then (field (p .0)) (λ k. Ok (k, p .1)))
+
+abbrev pub last-field : List (List ℕ) → Result ℕ Fault
+last-field ws = then (last-number ws) field
+
+-- a space, or nothing, comes first
+abbrev pub behind-space : List ℕ → List ℕ
+behind-space [] = []
+behind-space (b ∷ bs) = bs
+
+abbrev pub number-first : Option (List ℕ × List ℕ) → Result (ℕ × List ℕ) Fault
+number-first None = Err NumberMissing
+number-first (Some p) = then (number-of (p .0)) (λ n. then (field n) (λ k. Ok (k, behind-space (p .1))))
+
+abbrev pub number-and-text : List ℕ → Result (ℕ × List ℕ) Fault
+number-and-text bs = number-first (parted bs)
 
 -- what was read, and the words of the text that is left
 abbrev pub left : {A : Type 0} → Result (A × RefT (List ℕ)) Fault → Result (A × List (List ℕ)) Fault

@@ -1,19 +1,27 @@
 // How far the lines of a file have come. Four lines open a book, in their order, and a file may hold several books.
 ghost use mathlib.Core.Path.{_≡_};
 ghost use Rattle.text.specs.declared.reader.State.the-variants.{Start, Refused};
-ghost use Rattle.text.specs.Reading.{begins-book, passed-over, entered, step-of, state-after};
+ghost use Rattle.text.specs.Calls.{call-of};
+ghost use Rattle.text.specs.Reading.{begins-book, passed-over, entered, called, both-said, Says, step-of, state-after};
+use crate::call::Question;
+use crate::call::Verb;
+use crate::call::read_call;
+use crate::call::verb_of;
 use crate::entry::Entry;
 use crate::entry::read_entry;
 use crate::fault::Fault;
 use crate::word::first_word;
+use std::alloc::Global;
 use store::Limits;
 use store::Looks;
 
 // What a line asks for.
-#[derive(Clone, Copy)]
+#[derive(Drop)]
 pub enum Step {
     Nothing,
     Open(Limits, Looks),
+    // the bytes of a call, and what is asked by it
+    Call(Question, Vec<u8>),
 }
 
 // What has been read of a book.
@@ -43,7 +51,7 @@ impl State {
     }
 
     fn enter(self, entry: Entry) -> Result<(State, Step), Fault>
-        ensures { λ r. ⌜ r ≡ entered self entry ⌝ }
+        ensures { λ r. ⌜ both-said r ≡ entered self entry ⌝ }
     {
         let state = match (self, entry) {
             (state, Entry::Nothing) => state,
@@ -69,6 +77,17 @@ impl State {
         };
         Ok((state, Step::Nothing))
     }
+
+    // Only an opened book is asked anything.
+    fn call(&self, heap: Global, verb: Verb, text: &[u8]) -> Result<Step, Fault>
+        ensures { λ r. ⌜ Says r (called (now (self .entry)) (call-of verb (now (text .entry)))) ⌝ }
+    {
+        if !matches!(self, State::Opened) {
+            return Err(Fault::OutOfPlace);
+        }
+        let bytes = read_call(heap, verb, text)?;
+        Ok(Step::Call(Question::of(&bytes), bytes))
+    }
 }
 
 #[derive(Drop)]
@@ -85,13 +104,17 @@ impl Reader {
         }
     }
 
-    // A line at fault leaves the reader as it was.
-    pub fn read(&mut self, line: &[u8]) -> Result<Step, Fault>
-        ensures value { λ r. ⌜ r ≡ step-of (now (self .entry) .state) (now (line .entry)) ⌝ }
+    // A line at fault, and one for which there is no memory, leaves the reader as it was.
+    pub fn read(&mut self, heap: Global, line: &[u8]) -> Result<Step, Fault>
+        ensures value { λ r. ⌜ Says r (step-of (now (self .entry) .state) (now (line .entry))) ⌝ }
         ensures after { λ r. ⌜ now (self .exit) .state ≡ state-after (now (self .entry) .state) (now (line .entry)) ⌝ }
     {
         if self.state.passes_over(line) {
             return Ok(Step::Nothing);
+        }
+        let (word, rest) = first_word(line);
+        if let Some(verb) = verb_of(word) {
+            return self.state.call(heap, verb, rest);
         }
         let entry = read_entry(line)?;
         let (state, step) = self.state.enter(entry)?;

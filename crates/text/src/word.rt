@@ -1,9 +1,10 @@
 // Words and numbers at the front of a text, each with what stands behind it.
 ghost use mathlib.Core.Path.{_≡_};
 ghost use mathlib.Core.List.{[], _∷_};
-ghost use Rattle.std.specs.Options.{Cases as BySome};
+ghost use Rattle.std.specs.Options.{mapped, Cases as BySome};
 ghost use Rattle.std.specs.shelf.Lists.{leading};
-ghost use Rattle.text.specs.Words.{is-space, no-space, words, first-word, words-behind, number-of, next-number, last-number, left};
+ghost use Rattle.text.specs.Words.{is-space, no-space, words, first-word, behind-word, words-behind, parted, number-of, next-number, last-number, field, next-field, last-field, number-and-text, left};
+ghost use Rattle.notation.specs.Steps.{behind};
 use crate::fault::Fault;
 
 // How many spaces come first.
@@ -31,14 +32,16 @@ fn word_len(text: &[u8]) -> usize
 // What comes before the first space, which may be nothing, and the rest.
 pub fn first_word(text: &[u8]) -> (&[u8], &[u8])
     ensures front { λ r. ⌜ now (r .0) ≡ first-word (now (text .entry)) ⌝ }
-    ensures back { λ r. ⌜ words (now (r .1)) ≡ words-behind (now (text .entry)) ⌝ }
+    ensures back { λ r. ⌜ now (r .1) ≡ behind-word (now (text .entry)) ⌝ }
+    ensures words { λ r. ⌜ words (now (r .1)) ≡ words-behind (now (text .entry)) ⌝ }
 {
     text.split_at(word_len(text))
 }
 
 // None where only spaces are left.
 pub fn next_word(text: &[u8]) -> Option<(&[u8], &[u8])>
-    ensures { λ r. ⌜ BySome r (words (now (text .entry)) ≡ []) (λ p. words (now (text .entry)) ≡ now (p .0) ∷ words (now (p .1))) ⌝ }
+    ensures words { λ r. ⌜ BySome r (words (now (text .entry)) ≡ []) (λ p. words (now (text .entry)) ≡ now (p .0) ∷ words (now (p .1))) ⌝ }
+    ensures exact { λ r. ⌜ mapped (λ p. (now (p .0), now (p .1))) r ≡ parted (now (text .entry)) ⌝ }
 {
     let (_, text) = text.split_at(spaces(text));
     if text.is_empty() {
@@ -81,5 +84,42 @@ pub fn last_number(text: &[u8]) -> Result<u32, Fault>
     match next_word(rest) {
         None => Ok(n),
         Some(_) => Err(Fault::TooMuch),
+    }
+}
+
+// A number that two bytes can carry.
+fn field(n: u32) -> Result<u16, Fault>
+    ensures { λ r. ⌜ r ≡ field n ⌝ }
+{
+    match u16::try_from(n) {
+        Ok(n) => Ok(n),
+        Err(_) => Err(Fault::TooLarge),
+    }
+}
+
+pub fn next_field(text: &[u8]) -> Result<(u16, &[u8]), Fault>
+    ensures { λ r. ⌜ left r ≡ next-field (words (now (text .entry))) ⌝ }
+{
+    let (n, rest) = next_number(text)?;
+    Ok((field(n)?, rest))
+}
+
+pub fn last_field(text: &[u8]) -> Result<u16, Fault>
+    ensures { λ r. ⌜ r ≡ last-field (words (now (text .entry))) ⌝ }
+{
+    field(last_number(text)?)
+}
+
+// A number that two bytes can carry, and what stands behind one space after it.
+pub fn number_and_text(text: &[u8]) -> Result<(u16, &[u8]), Fault>
+    ensures { λ r. ⌜ behind r ≡ number-and-text (now (text .entry)) ⌝ }
+{
+    let Some((word, rest)) = next_word(text) else {
+        return Err(Fault::NumberMissing);
+    };
+    let k = field(number(word)?)?;
+    match rest {
+        [] => Ok((k, rest)),
+        [_, rest @ ..] => Ok((k, rest)),
     }
 }

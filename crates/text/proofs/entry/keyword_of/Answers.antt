@@ -2,7 +2,7 @@ use mathlib.Core.Path.{refl}
 use mathlib.Core.Bool.{true, false}
 use lib.Chars.{codes}
 use Rattle.text.specs.Entries.{keyword-of}
-use Rattle.text.proofs.Sames.{same-as-told}
+use Rattle.notation.proofs.Sames.{same-as-told}
 use Rattle.text.proofs.entry.keyword_of.Needs as need
 
 pub returns-then-eq : need.returns-then-eq

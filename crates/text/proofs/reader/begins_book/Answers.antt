@@ -2,7 +2,7 @@ use mathlib.Core.Path.{sym, ap, _∙_}
 use lib.Chars.{codes}
 use Rattle.std.specs.shelf.Text.{sameBytes}
 use Rattle.text.specs.Reading.{begins-book}
-use Rattle.text.proofs.Sames.{same-as-told}
+use Rattle.notation.proofs.Sames.{same-as-told}
 use Rattle.text.proofs.reader.begins_book.Needs as need
 
 pub returns : need.returns

@@ -1,6 +1,6 @@
 use Rattle.std.proofs.shelf.Tests.{eq-eqb, ne-eqb}
 use Rattle.text.specs.Words.{is-space}
-use Rattle.text.proofs.Pieces.{leading-more, leading-stops, leading-ends}
+use Rattle.notation.proofs.Leading.{leading-more, leading-stops, leading-ends}
 use Rattle.text.proofs.word.spaces.Needs as need
 
 pub loop-n-again : need.loop-n-again

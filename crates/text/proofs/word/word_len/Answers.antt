@@ -1,6 +1,6 @@
 use Rattle.std.proofs.shelf.Tests.{eq-eqb, ne-eqb, not-from-true, not-from-false}
 use Rattle.text.specs.Words.{no-space}
-use Rattle.text.proofs.Pieces.{leading-more, leading-stops, leading-ends}
+use Rattle.notation.proofs.Leading.{leading-more, leading-stops, leading-ends}
 use Rattle.text.proofs.word.word_len.Needs as need
 
 pub loop-n-again : need.loop-n-again
