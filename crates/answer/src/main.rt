@@ -69,7 +69,7 @@ impl Memory {
         Ok(open(&mut self.tokens, &mut self.rest, limits, looks))
     }
 
-    // The answer's bytes.
+    // The answer's bytes. There is always room for them.
     fn call(&mut self, bytes: &[u8]) -> &[u8] {
         let written = call(&mut self.tokens, &mut self.rest, bytes, &mut self.out);
         let n = written.unwrap_or(0).min(self.out.len());
