@@ -89,3 +89,11 @@ kept-tells l g ts = tells l g ts _
 pub rest-tells : (l : Limits) (g : Looks) (ts : List Tokens) → Tells l g ts (rest-of (memory l g ts))
 unfolding memory
 rest-tells l g ts = subst (Tells l g ts) (sym (append-assoc (header-for l g ts ++ entries ts) _ (replicate (words-asked l) 0))) (tells l g ts _)
+
+-- and where more numbers were lent than asked for
+pub longer-tells : (l : Limits) (g : Looks) (ts : List Tokens) (more : List ℕ) → Tells l g ts (rest-of (memory l g ts) ++ more)
+unfolding memory
+longer-tells l g ts more =
+    subst (Tells l g ts)
+    (sym (append-assoc (kept-for l g ts) (replicate (words-asked l) 0) more ∙ append-assoc (header-for l g ts ++ entries ts) _ (replicate (words-asked l) 0 ++ more)))
+    (tells l g ts _)

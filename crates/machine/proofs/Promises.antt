@@ -20,7 +20,7 @@ use Rattle.machine.proofs.Steps.{Holds, Step}
 use Rattle.machine.proofs.ByCall.{step}
 use Rattle.machine.proofs.Bounds.{tokens-below, words-below, kept-below}
 
-holds-nothing : (l : Limits) → Holds l []
+pub holds-nothing : (l : Limits) → Holds l []
 unfolding sizes def-sizes short-all
 holds-nothing l =
     record {

@@ -24,7 +24,7 @@ use Rattle.store.proofs.Tables.{table-sum-take}
 use Rattle.session.specs.Answering.{limits-in, memory-in}
 
 -- rows written over the front of a row
-over-append : (xs ys zs : List ℕ) → length xs ≡ length ys → over xs (ys ++ zs) ≡ xs ++ zs
+pub over-append : (xs ys zs : List ℕ) → length xs ≡ length ys → over xs (ys ++ zs) ≡ xs ++ zs
 over-append xs ys zs e = ap (λ t. xs ++ t) (drop-at ys zs (length xs) (sym e))
 
 pub over-take : (xs ys : List ℕ) (n : ℕ) → length xs ≡ n → n ≤ length ys → over xs ys ≡ xs ++ drop n ys

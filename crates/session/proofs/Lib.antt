@@ -1,3 +1,4 @@
 mod Cuts
 mod Performed
 mod Wishes
+mod Whole
