@@ -67,6 +67,14 @@ pub within-all : (first at gone n total : ℕ) (rs : List ℕ) → table-sum fir
 within-all first at gone n total rs e h =
     record { from-to = table-sum-le first at (at + gone) rs (omega arith); to-end = omega (arith, table-sum-le first (at + gone) n rs h) }
 
+-- all that is known of an edit of paragraphs that are there
+pub known :
+    (ts rs : List ℕ) (k : Kept) (c : Change) → Ready ts rs k c → c .at + c .gone ≤ k .paragraphs →
+    Numbers-of ts rs k × Within 64 (c .at) (c .gone) (k .paragraphs) (k .bytes) rs × Within 65 (c .at) (c .gone) (k .paragraphs) (k .size) rs
+known ts rs k c r there =
+    let n : Numbers-of ts rs k = numbers-of ts rs k c r in
+    (n, within-all 64 (c .at) (c .gone) (k .paragraphs) (k .bytes) rs (n .bytes-add-up) there, within-all 65 (c .at) (c .gone) (k .paragraphs) (k .size) rs (n .sizes-add-up) there)
+
 -- the new entry, or none
 pub entry-taken : (come n s : ℕ) → come ≤ 1 → take (4 * come - 0) (n ∷ (s ∷ (0 ∷ (0 ∷ [])))) ≡ pick (eqb come 0) [] (n ∷ (s ∷ (0 ∷ (0 ∷ []))))
 entry-taken zero n s h = refl

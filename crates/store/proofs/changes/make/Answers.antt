@@ -4,128 +4,83 @@ use lib.ListN.{length, getD}
 use Rattle.store.specs.Changes.{bytes-gone, size-gone, paragraphs-after, size-after, bytes-after}
 use Rattle.store.specs.Edits.{edit-in}
 use native.Mathlib.Omega.{arith}
-use Rattle.store.proofs.Makes.{numbers-of, within-all, within-parts, made-at, tokens-edited, rest-edited}
+use Rattle.store.proofs.Makes.{numbers-of, known, within-parts, made-at, tokens-edited, rest-edited}
 use Rattle.store.proofs.changes.make.Needs as need
 
 pub of-bytes-requires : need.of-bytes-requires
 of-bytes-requires c κs =
-    let k = numbers-of (c .args .tokens .now) (c .args .rest .now) (c .args .kept) (c .args .change) (c .pre) in
-    let there : c .args .change .at + c .args .change .gone ≤ c .args .kept .paragraphs = omega arith in
-    let b = within-all 64 (c .args .change .at) (c .args .change .gone) (c .args .kept .paragraphs) (c .args .kept .bytes) (c .args .rest .now) (k .bytes-add-up) there in
-    let s = within-all 65 (c .args .change .at) (c .args .change .gone) (c .args .kept .paragraphs) (c .args .kept .size) (c .args .rest .now) (k .sizes-add-up) there in
+    let (k, b, s) = known (c .args .tokens .now) (c .args .rest .now) (c .args .kept) (c .args .change) (c .pre) (omega arith) in
     (omega arith, omega arith)
 
 pub of-size-requires : need.of-size-requires
 of-size-requires c κs =
-    let k = numbers-of (c .args .tokens .now) (c .args .rest .now) (c .args .kept) (c .args .change) (c .pre) in
-    let there : c .args .change .at + c .args .change .gone ≤ c .args .kept .paragraphs = omega arith in
-    let b = within-all 64 (c .args .change .at) (c .args .change .gone) (c .args .kept .paragraphs) (c .args .kept .bytes) (c .args .rest .now) (k .bytes-add-up) there in
-    let s = within-all 65 (c .args .change .at) (c .args .change .gone) (c .args .kept .paragraphs) (c .args .kept .size) (c .args .rest .now) (k .sizes-add-up) there in
+    let (k, b, s) = known (c .args .tokens .now) (c .args .rest .now) (c .args .kept) (c .args .change) (c .pre) (omega arith) in
     (omega arith, omega arith)
 
 pub add-after : need.add-after
 add-after c =
-    let k = numbers-of (c .args .tokens .now) (c .args .rest .now) (c .args .kept) (c .args .change) (c .pre) in
-    let there : c .args .change .at + c .args .change .gone ≤ c .args .kept .paragraphs = omega arith in
-    let b = within-all 64 (c .args .change .at) (c .args .change .gone) (c .args .kept .paragraphs) (c .args .kept .bytes) (c .args .rest .now) (k .bytes-add-up) there in
-    let s = within-all 65 (c .args .change .at) (c .args .change .gone) (c .args .kept .paragraphs) (c .args .kept .size) (c .args .rest .now) (k .sizes-add-up) there in
+    let (k, b, s) = known (c .args .tokens .now) (c .args .rest .now) (c .args .kept) (c .args .change) (c .pre) (omega arith) in
     omega arith
 
 pub len-requires : need.len-requires
 len-requires c κs =
-    let k = numbers-of (c .args .tokens .now) (c .args .rest .now) (c .args .kept) (c .args .change) (c .pre) in
-    let there : c .args .change .at + c .args .change .gone ≤ c .args .kept .paragraphs = omega arith in
-    let b = within-all 64 (c .args .change .at) (c .args .change .gone) (c .args .kept .paragraphs) (c .args .kept .bytes) (c .args .rest .now) (k .bytes-add-up) there in
-    let s = within-all 65 (c .args .change .at) (c .args .change .gone) (c .args .kept .paragraphs) (c .args .kept .size) (c .args .rest .now) (k .sizes-add-up) there in
+    let (k, b, s) = known (c .args .tokens .now) (c .args .rest .now) (c .args .kept) (c .args .change) (c .pre) (omega arith) in
     omega arith
 
 pub sub-after-2 : need.sub-after-2
 sub-after-2 c =
-    let k = numbers-of (c .args .tokens .now) (c .args .rest .now) (c .args .kept) (c .args .change) (c .pre) in
-    let there : c .args .change .at + c .args .change .gone ≤ c .args .kept .paragraphs = omega arith in
-    let b = within-all 64 (c .args .change .at) (c .args .change .gone) (c .args .kept .paragraphs) (c .args .kept .bytes) (c .args .rest .now) (k .bytes-add-up) there in
-    let s = within-all 65 (c .args .change .at) (c .args .change .gone) (c .args .kept .paragraphs) (c .args .kept .size) (c .args .rest .now) (k .sizes-add-up) there in
+    let (k, b, s) = known (c .args .tokens .now) (c .args .rest .now) (c .args .kept) (c .args .change) (c .pre) (omega arith) in
     omega arith
 
 pub add-after-2 : need.add-after-2
 add-after-2 c =
-    let k = numbers-of (c .args .tokens .now) (c .args .rest .now) (c .args .kept) (c .args .change) (c .pre) in
-    let there : c .args .change .at + c .args .change .gone ≤ c .args .kept .paragraphs = omega arith in
-    let b = within-all 64 (c .args .change .at) (c .args .change .gone) (c .args .kept .paragraphs) (c .args .kept .bytes) (c .args .rest .now) (k .bytes-add-up) there in
-    let s = within-all 65 (c .args .change .at) (c .args .change .gone) (c .args .kept .paragraphs) (c .args .kept .size) (c .args .rest .now) (k .sizes-add-up) there in
+    let (k, b, s) = known (c .args .tokens .now) (c .args .rest .now) (c .args .kept) (c .args .change) (c .pre) (omega arith) in
     omega arith
 
 pub len-requires-2 : need.len-requires-2
 len-requires-2 c κs =
-    let k = numbers-of (c .args .tokens .now) (c .args .rest .now) (c .args .kept) (c .args .change) (c .pre) in
-    let there : c .args .change .at + c .args .change .gone ≤ c .args .kept .paragraphs = omega arith in
-    let b = within-all 64 (c .args .change .at) (c .args .change .gone) (c .args .kept .paragraphs) (c .args .kept .bytes) (c .args .rest .now) (k .bytes-add-up) there in
-    let s = within-all 65 (c .args .change .at) (c .args .change .gone) (c .args .kept .paragraphs) (c .args .kept .size) (c .args .rest .now) (k .sizes-add-up) there in
+    let (k, b, s) = known (c .args .tokens .now) (c .args .rest .now) (c .args .kept) (c .args .change) (c .pre) (omega arith) in
     omega arith
 
 pub sub-after-3 : need.sub-after-3
 sub-after-3 c =
-    let k = numbers-of (c .args .tokens .now) (c .args .rest .now) (c .args .kept) (c .args .change) (c .pre) in
-    let there : c .args .change .at + c .args .change .gone ≤ c .args .kept .paragraphs = omega arith in
-    let b = within-all 64 (c .args .change .at) (c .args .change .gone) (c .args .kept .paragraphs) (c .args .kept .bytes) (c .args .rest .now) (k .bytes-add-up) there in
-    let s = within-all 65 (c .args .change .at) (c .args .change .gone) (c .args .kept .paragraphs) (c .args .kept .size) (c .args .rest .now) (k .sizes-add-up) there in
+    let (k, b, s) = known (c .args .tokens .now) (c .args .rest .now) (c .args .kept) (c .args .change) (c .pre) (omega arith) in
     omega arith
 
 pub add-after-3 : need.add-after-3
 add-after-3 c =
-    let k = numbers-of (c .args .tokens .now) (c .args .rest .now) (c .args .kept) (c .args .change) (c .pre) in
-    let there : c .args .change .at + c .args .change .gone ≤ c .args .kept .paragraphs = omega arith in
-    let b = within-all 64 (c .args .change .at) (c .args .change .gone) (c .args .kept .paragraphs) (c .args .kept .bytes) (c .args .rest .now) (k .bytes-add-up) there in
-    let s = within-all 65 (c .args .change .at) (c .args .change .gone) (c .args .kept .paragraphs) (c .args .kept .size) (c .args .rest .now) (k .sizes-add-up) there in
+    let (k, b, s) = known (c .args .tokens .now) (c .args .rest .now) (c .args .kept) (c .args .change) (c .pre) (omega arith) in
     omega arith
 
 pub within-requires : need.within-requires
 within-requires c κs =
-    let k = numbers-of (c .args .tokens .now) (c .args .rest .now) (c .args .kept) (c .args .change) (c .pre) in
-    let there : c .args .change .at + c .args .change .gone ≤ c .args .kept .paragraphs = omega arith in
-    let b = within-all 64 (c .args .change .at) (c .args .change .gone) (c .args .kept .paragraphs) (c .args .kept .bytes) (c .args .rest .now) (k .bytes-add-up) there in
-    let s = within-all 65 (c .args .change .at) (c .args .change .gone) (c .args .kept .paragraphs) (c .args .kept .size) (c .args .rest .now) (k .sizes-add-up) there in
+    let (k, b, s) = known (c .args .tokens .now) (c .args .rest .now) (c .args .kept) (c .args .change) (c .pre) (omega arith) in
     omega arith
 
 pub len-requires-3 : need.len-requires-3
 len-requires-3 c κs =
-    let k = numbers-of (c .args .tokens .now) (c .args .rest .now) (c .args .kept) (c .args .change) (c .pre) in
-    let there : c .args .change .at + c .args .change .gone ≤ c .args .kept .paragraphs = omega arith in
-    let b = within-all 64 (c .args .change .at) (c .args .change .gone) (c .args .kept .paragraphs) (c .args .kept .bytes) (c .args .rest .now) (k .bytes-add-up) there in
-    let s = within-all 65 (c .args .change .at) (c .args .change .gone) (c .args .kept .paragraphs) (c .args .kept .size) (c .args .rest .now) (k .sizes-add-up) there in
+    let (k, b, s) = known (c .args .tokens .now) (c .args .rest .now) (c .args .kept) (c .args .change) (c .pre) (omega arith) in
     omega arith
 
 pub sub-kept : need.sub-kept
 sub-kept c =
-    let k = numbers-of (c .args .tokens .now) (c .args .rest .now) (c .args .kept) (c .args .change) (c .pre) in
-    let there : c .args .change .at + c .args .change .gone ≤ c .args .kept .paragraphs = omega arith in
-    let b = within-all 64 (c .args .change .at) (c .args .change .gone) (c .args .kept .paragraphs) (c .args .kept .bytes) (c .args .rest .now) (k .bytes-add-up) there in
-    let s = within-all 65 (c .args .change .at) (c .args .change .gone) (c .args .kept .paragraphs) (c .args .kept .size) (c .args .rest .now) (k .sizes-add-up) there in
+    let (k, b, s) = known (c .args .tokens .now) (c .args .rest .now) (c .args .kept) (c .args .change) (c .pre) (omega arith) in
     omega arith
 
 pub splice-requires : need.splice-requires
 splice-requires c κs =
-    let k = numbers-of (c .args .tokens .now) (c .args .rest .now) (c .args .kept) (c .args .change) (c .pre) in
-    let there : c .args .change .at + c .args .change .gone ≤ c .args .kept .paragraphs = omega arith in
-    let b = within-all 64 (c .args .change .at) (c .args .change .gone) (c .args .kept .paragraphs) (c .args .kept .bytes) (c .args .rest .now) (k .bytes-add-up) there in
-    let s = within-all 65 (c .args .change .at) (c .args .change .gone) (c .args .kept .paragraphs) (c .args .kept .size) (c .args .rest .now) (k .sizes-add-up) there in
+    let (k, b, s) = known (c .args .tokens .now) (c .args .rest .now) (c .args .kept) (c .args .change) (c .pre) (omega arith) in
     let w = within-parts _ (c .args .kept) (c .if-not-within .ensures tt) in
     omega (arith, w .2)
 
 pub splice-entries-requires : need.splice-entries-requires
 splice-entries-requires c κs =
-    let k = numbers-of (c .args .tokens .now) (c .args .rest .now) (c .args .kept) (c .args .change) (c .pre) in
-    let there : c .args .change .at + c .args .change .gone ≤ c .args .kept .paragraphs = omega arith in
-    let b = within-all 64 (c .args .change .at) (c .args .change .gone) (c .args .kept .paragraphs) (c .args .kept .bytes) (c .args .rest .now) (k .bytes-add-up) there in
-    let s = within-all 65 (c .args .change .at) (c .args .change .gone) (c .args .kept .paragraphs) (c .args .kept .size) (c .args .rest .now) (k .sizes-add-up) there in
-    record { gone-few = c .pre .gone-few; come-few = c .pre .come-few; there = there; few = omega arith; long = omega arith }
+    let (k, b, s) = known (c .args .tokens .now) (c .args .rest .now) (c .args .kept) (c .args .change) (c .pre) (omega arith) in
+    record { gone-few = c .pre .gone-few; come-few = c .pre .come-few; there = omega arith; few = omega arith; long = omega arith }
 
 pub write-requires : need.write-requires
 write-requires c κs =
-    let k = numbers-of (c .args .tokens .now) (c .args .rest .now) (c .args .kept) (c .args .change) (c .pre) in
-    let there : c .args .change .at + c .args .change .gone ≤ c .args .kept .paragraphs = omega arith in
-    let b = within-all 64 (c .args .change .at) (c .args .change .gone) (c .args .kept .paragraphs) (c .args .kept .bytes) (c .args .rest .now) (k .bytes-add-up) there in
-    let s = within-all 65 (c .args .change .at) (c .args .change .gone) (c .args .kept .paragraphs) (c .args .kept .size) (c .args .rest .now) (k .sizes-add-up) there in
+    let (k, b, s) = known (c .args .tokens .now) (c .args .rest .now) (c .args .kept) (c .args .change) (c .pre) (omega arith) in
     omega (arith, c .splice-entries .kept .rest)
 
 pub returns : need.returns
