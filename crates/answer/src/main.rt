@@ -1,11 +1,9 @@
 // Reads a file of calls, or standard input, and answers each line before the next is read.
 use session::{Asked, Limits, Looks, ROOM, call, open};
 use std::alloc::Global;
-use std::fmt::Display;
 use std::io::{BufRead, BufReader};
 use std::{env, fs, io};
-use telling::{Outcome, Shown};
-use text::{Reader, Step};
+use text::{Outcome, Reader, Shown, Step};
 use wire::Refusal;
 
 const HELP: &str = "\
@@ -59,10 +57,9 @@ impl Memory {
 
     // The answer's bytes. There is always room for them.
     fn call(&mut self, bytes: &[u8]) -> &[u8] {
-        match call(&mut self.tokens, &mut self.rest, bytes, &mut self.out) {
-            Some(n) => &self.out[0..n],
-            None => &[],
-        }
+        let written = call(&mut self.tokens, &mut self.rest, bytes, &mut self.out);
+        let n = written.unwrap_or(0).min(self.out.len());
+        &self.out[0..n]
     }
 }
 
@@ -97,28 +94,21 @@ fn answer_step(
     }
 }
 
-// Tells what is wrong at a line; the error is to end the program.
-fn tell<D: Display + Drop>(rt: &HostRuntime, line: u64, what: D) -> io::Error {
-    match eprintln!(rt; "line {line}: {what}") {
-        Ok(()) => io::Error::from(io::ErrorKind::InvalidData),
-        Err(error) => error,
-    }
-}
-
 fn answer_all<B: BufRead + Drop>(rt: &HostRuntime, mut input: B) -> io::Result<()> {
     let mut reader = Reader::new();
     let mut memory = Memory::none(rt.alloc())?;
     let mut line = Vec::new(rt.alloc());
     for n in 1..u64::MAX {
         line.clear();
-        match input.read_until(b'\n', &mut line) {
-            Ok(0) => break,
-            Ok(_) => {}
-            Err(error) => return Err(tell(rt, n, error)),
+        if input.read_until(b'\n', &mut line)? == 0 {
+            break;
         }
         match reader.read(rt.alloc(), without_end(&line)) {
             Ok(step) => answer_step(rt, &mut reader, &mut memory, step)?,
-            Err(fault) => return Err(tell(rt, n, fault)),
+            Err(fault) => {
+                eprintln!(rt; "line {n}: {fault}")?;
+                return Err(io::Error::from(io::ErrorKind::InvalidData));
+            }
         }
     }
     Ok(())

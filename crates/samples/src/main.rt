@@ -3,7 +3,7 @@ use layout::{count_pages, show_rows};
 use std::alloc::{AllocError, Global};
 use std::{fmt, io};
 use store::{Asked, Limits, Looks, open, put};
-use telling::Outcome;
+use text::Outcome;
 use wire::Refusal;
 
 // Enough for each of the texts.

@@ -1,5 +1,4 @@
 mod Cuts
 mod Performed
-mod Asks
 mod Wishes
 mod Whole

@@ -2,10 +2,8 @@
 --   memory_in   the lent slices, cut to what the header asks for
 --   said        what a call is answered, by the machine where memory is an open book
 --   left        what it leaves in a slice
---   Makes       what an edit gives, and leaves
---   Performs    what any call gives, and leaves
 --   Answers     what `call` gives back, and leaves in each slice
-use Rattle.std.specs.Prelude.{◌≡◌, ℕ, ◌≤◌, min, Bool, List, [], length, take, drop, IfSome, Some, None, Ok, Err, Option, Result, nat_le}
+use Rattle.std.specs.Prelude.{◌≡◌, ℕ, min, Bool, List, [], length, take, drop, Some, None, Option, Result, nat_le}
 use Rattle.meaning.specs.Text.{pick}
 use Rattle.meaning.specs.Calls.{Call, Answer, refused, Limits}
 use Rattle.meaning.specs.Promise.{Memory}
@@ -13,7 +11,8 @@ use Rattle.wire.specs.Bytes.{over, answer_bytes, Reading, is_call, stops, readin
 use Rattle.wire.specs.declared.refusal.Refusal.{Refusal}
 use Rattle.store.specs.Opened.{limits_of, tokens_asked, kept_asked, words_asked, rest_of}
 use Rattle.store.specs.Kept.{limits_at, is_open}
-use Rattle.machine.specs.Setter.{Wish, to_edit, to_show, to_find, to_count, unfit, wish, told_of, setter}
+use Rattle.store.specs.Changes.{Edit}
+use Rattle.machine.specs.Setter.{wish, told_of, setter}
 
 abbrev pub limits_in : List ℕ → Limits
 limits_in rs = limits_of (limits_at rs)
@@ -27,12 +26,9 @@ memory_in ts rs =
     }
 
 -- of memory that is no open book: a call that is no good comes first, by 2, and then that it is none, by 3
-abbrev pub unopened : Wish → Answer
-unopened (to_edit e) = refused 3 2
-unopened (to_show k r n) = refused 3 2
-unopened to_find = refused 3 2
-unopened to_count = refused 3 2
-unopened unfit = refused 2 0
+abbrev pub unopened : Option Edit → Answer
+unopened None = refused 2 0
+unopened (Some e) = refused 3 2
 
 abbrev pub said : List ℕ → List ℕ → Call → Answer
 said ts rs c = pick (is_open (length ts) rs) (setter.says (memory_in ts rs) c) (unopened (wish [] c))
@@ -41,20 +37,9 @@ said ts rs c = pick (is_open (length ts) rs) (setter.says (memory_in ts rs) c) (
 abbrev pub left : List ℕ → List ℕ → Call → (Memory → List ℕ) → List ℕ → List ℕ
 left ts rs c part xs = pick (is_open (length ts) rs) (over (part (setter.next (memory_in ts rs) c)) xs) xs
 
--- what making an edit gives, and leaves in both slices
-pub record Makes (ts rs : List ℕ) (c : Call) (ts' rs' : List ℕ) (r : Result (Unit {0}) Refusal) : Type 0 where
+-- what making a call gives, and leaves in both slices
+pub record Performs (ts rs : List ℕ) (c : Call) (ts' rs' : List ℕ) (r : Result (Unit {0}) Refusal) : Type 0 where
   pub value : told_of r ≡ said ts rs c
-  pub tokens : ts' ≡ left ts rs c (λ m. m.tokens) ts
-  pub rest : rs' ≡ left ts rs c rest_of rs
-
--- an answer that was written, as so many bytes, or a refusal that is still to be written
-abbrev pub Told : Result ℕ Refusal → Answer → List ℕ → List ℕ → Type 0
-Told (Ok n) a out out' = (n ≡ length (answer_bytes a)) × (out' ≡ over (answer_bytes a) out)
-Told (Err why) a out out' = (a ≡ told_of (Err why)) × (out' ≡ out)
-
--- what any call gives, and leaves in both slices and in the answer's bytes
-pub record Performs (ts rs : List ℕ) (c : Call) (out ts' rs' out' : List ℕ) (r : Result ℕ Refusal) : Type 0 where
-  pub told : Told r (said ts rs c) out out'
   pub tokens : ts' ≡ left ts rs c (λ m. m.tokens) ts
   pub rest : rs' ≡ left ts rs c rest_of rs
 
@@ -70,9 +55,8 @@ left_to ts rs (stops n) part xs = xs
 abbrev pub reply : List ℕ → List ℕ → List ℕ → Answer
 reply ts rs bs = reply_to ts rs (reading bs)
 
-pub record Replies (ts rs bs out ts' rs' out' : List ℕ) (n : ℕ) : Type 0 where
-  pub value : n ≡ length (answer_bytes (reply ts rs bs))
-  pub after : out' ≡ over (answer_bytes (reply ts rs bs)) out
+pub record Replies (ts rs bs ts' rs' : List ℕ) (a : Answer) : Type 0 where
+  pub value : a ≡ reply ts rs bs
   pub tokens : ts' ≡ left_to ts rs (reading bs) (λ m. m.tokens) ts
   pub rest : rs' ≡ left_to ts rs (reading bs) rest_of rs
 
@@ -84,4 +68,3 @@ pub record Answers (ts rs bs out ts' rs' out' : List ℕ) (r : Option ℕ) : Typ
   pub after : out' ≡ pick (has_room out) (over (answer_bytes (reply ts rs bs)) out) out
   pub tokens : ts' ≡ pick (has_room out) (left_to ts rs (reading bs) (λ m. m.tokens) ts) ts
   pub rest : rs' ≡ pick (has_room out) (left_to ts rs (reading bs) rest_of rs) rs
-  pub within : IfSome r (λ n. n ≤ length out)

@@ -1,6 +1,6 @@
 // The changes to a book: a paragraph is put, put in or cut. What stands behind it in memory follows, and what is freed is 0.
-ghost use Rattle.std.specs.Prelude.{◌≡◌, ◌+◌, ◌-◌, ◌*◌, ◌^◌, ◌<◌, ◌≤◌, [], length, Ok, slice_set};
-ghost use Rattle.store.specs.Kept.{table_sum};
+ghost use Rattle.std.specs.Prelude.{◌≡◌, ◌+◌, ◌-◌, ◌*◌, ◌^◌, ◌<◌, ◌≤◌, true, [], length, Ok, slice_set};
+ghost use Rattle.store.specs.Kept.{table_sum, is_open, kept_at};
 ghost use Rattle.store.specs.Changes.{put_edit, put_in_edit, cut_edit, Changes};
 ghost use Rattle.store.specs.Edits.{edit_in, counts_within, FitsEntries, entries_after, Ready};
 

@@ -1,5 +1,5 @@
 // A book is opened: how much memory its limits ask for, and what it holds at first.
-ghost use Rattle.std.specs.Prelude.{◌≡◌, ◌-◌, ◌≤◌, Some, None, nat_le, slice_index_or};
+ghost use Rattle.std.specs.Prelude.{◌≡◌, ◌-◌, ◌≤◌, length, Some, None, nat_le, slice_index_or};
 ghost use Rattle.meaning.specs.Text.{pick};
 ghost use Rattle.store.specs.Opened.{all_within, limits_in_range, looks_in_range, limits_of, looks_of, tokens_asked, rest_asked, asking, packed, packed_widths, header_of, Opens, InRangeGood, OpenedSound};
 

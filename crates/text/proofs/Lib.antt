@@ -1,7 +1,11 @@
+mod Answered
 mod Fields
 mod Formed
 mod Giving
 mod Hexes
+mod Letters
 mod Numbers
 mod Pieces
+mod Printed
+mod RowParts
 mod Tables

@@ -1,11 +1,12 @@
 -- What a line says that is a call: the bytes of the call, by the word that the line begins with and what stands behind that.
+--   question_of                  what is asked, by the call's first byte
 --   verb_of                      which call a word begins
 --   tokens_in, with_tokens       what tokens are as bytes, and a number and tokens behind a call's kind
 --   after_word                   the words behind one that is due
 --   put_line, cut_line, show_line, where_line, how_line, hex_line   the bytes of each call
 --   call_of                      the bytes of any
 --   Made, Gives                  what the code gives, where memory may fail
-use Rattle.std.specs.Prelude.{◌≡◌, ℕ, ◌+◌, ◌-◌, ◌*◌, cond, ◌&&◌, ◌⊎◌, List, [], ◌∷◌, ◌++◌, Some, None, Ok, Err, vec_items, codes, Option, Result, Vec, MatchResult, nat_le}
+use Rattle.std.specs.Prelude.{◌≡◌, ℕ, ◌+◌, ◌-◌, ◌*◌, cond, ◌&&◌, ◌⊎◌, List, [], ◌∷◌, ◌++◌, Some, None, Ok, Err, vec_items, codes, Option, Result, Vec, MatchResult, ◌==◌, nat_le}
 use Rattle.std.specs.Result.{result_map_both}
 use Rattle.std.specs.Str.{bytes_eq}
 use Rattle.std.specs.declared.alloc.Global.{Global}
@@ -13,12 +14,18 @@ use Rattle.meaning.specs.Calls.{cut, show, where_is, how_many}
 use Rattle.wire.specs.Bytes.{two, call_bytes}
 use Rattle.notation.specs.Noted.{noted}
 use Rattle.notation.specs.Steps.{then}
+use Rattle.text.specs.declared.call.Question.{Question}
+use Rattle.text.specs.declared.call.Question.TheVariants.{Change, Rows, Page, Pages}
 use Rattle.text.specs.declared.call.Verb.{Verb}
 use Rattle.text.specs.declared.call.Verb.TheVariants as verb
 use Rattle.text.specs.declared.fault.Fault.{Fault}
 use Rattle.text.specs.declared.fault.Fault.TheVariants.{Unknown, NoByte, TooMuch, NoMemory}
 use Rattle.text.specs.Messages.{fault_in}
 use Rattle.text.specs.Words.{words, parted, next_number, next_field, last_field, number_and_text}
+
+abbrev pub question_of : List ℕ → Question
+question_of [] = Change
+question_of (b ∷ bs) = cond (b == 3) Rows (cond (b == 4) Page (cond (b == 5) Pages Change))
 
 unfoldable pub verb_of : List ℕ → Option Verb
 verb_of w =

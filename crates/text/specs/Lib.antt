@@ -3,5 +3,6 @@ pub mod Entries
 pub mod Laws
 pub mod Messages
 pub mod Reading
+pub mod Shown
 pub mod Widths
 pub mod Words

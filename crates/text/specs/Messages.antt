@@ -1,12 +1,19 @@
 -- What is written.
+--   outcome_text   of an outcome
 --   fault_text     of what is wrong with a line
 --   fault_in       what is wrong with a line where this is wrong with its tokens
-use Rattle.std.specs.Prelude.{ℕ, List, codes}
+use Rattle.std.specs.Prelude.{ℕ, List, ◌++◌, Ok, Err, codes, decimal, Result}
+use Rattle.wire.specs.Refusals.{refusal_number, refusal_place}
+use Rattle.wire.specs.declared.refusal.Refusal.{Refusal}
 use Rattle.notation.specs.Messages as notation
 use Rattle.notation.specs.declared.fault.Fault as fault
 use Rattle.notation.specs.declared.fault.Fault.TheVariants as noted
 use Rattle.text.specs.declared.fault.Fault.{Fault}
 use Rattle.text.specs.declared.fault.Fault.TheVariants.{Unknown, OutOfPlace, NumberMissing, NoNumber, TooLarge, NoLetter, NoByte, TooMuch, Notation, NoMemory}
+
+abbrev pub outcome_text : Result (Unit {0}) Refusal → List ℕ
+outcome_text (Ok u) = codes "done"
+outcome_text (Err e) = codes "refused " ++ (decimal (refusal_number e) ++ (codes " at " ++ decimal (refusal_place e)))
 
 abbrev pub fault_text : Fault → List ℕ
 fault_text Unknown = codes "no such line"

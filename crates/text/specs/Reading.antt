@@ -12,7 +12,7 @@ use Rattle.std.specs.Str.{bytes_eq}
 use Rattle.store.specs.declared.opening.Limits.{Limits}
 use Rattle.store.specs.declared.opening.Looks.{Looks}
 use Rattle.notation.specs.Steps.{then}
-use Rattle.telling.specs.declared.question.Question.{Question}
+use Rattle.text.specs.declared.call.Question.{Question}
 use Rattle.text.specs.declared.call.Verb.{Verb}
 use Rattle.text.specs.declared.entry.Entry.{Entry}
 use Rattle.text.specs.declared.entry.Entry.TheVariants as entry
@@ -22,8 +22,7 @@ use Rattle.text.specs.declared.reader.State.{State}
 use Rattle.text.specs.declared.reader.State.TheVariants.{Start, AfterLimits, AfterWidths, AfterWidth, Opened, Refused}
 use Rattle.text.specs.declared.reader.Step.{Step}
 use Rattle.text.specs.declared.reader.Step.TheVariants.{Nothing, Open, Call}
-use Rattle.telling.specs.Questions.{question_of}
-use Rattle.text.specs.Calls.{verb_of, call_of}
+use Rattle.text.specs.Calls.{question_of, verb_of, call_of}
 use Rattle.text.specs.Words.{first_word, behind_word}
 use Rattle.text.specs.Entries.{entry_of}
 

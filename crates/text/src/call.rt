@@ -3,7 +3,7 @@ ghost use Rattle.std.specs.Prelude.{◌≡◌, ◌∷◌};
 ghost use Rattle.std.specs.Result.{result_map_both};
 ghost use Rattle.meaning.specs.Calls.{show};
 ghost use Rattle.wire.specs.Bytes.{two, call_bytes};
-ghost use Rattle.text.specs.Calls.{verb_of, with_tokens, put_line, cut_line, show_line, after_word, where_line, how_line, call_of, Gives, Made};
+ghost use Rattle.text.specs.Calls.{verb_of, question_of, with_tokens, put_line, cut_line, show_line, after_word, where_line, how_line, call_of, Gives, Made};
 ghost use Rattle.text.specs.Words.{words};
 
 use crate::fault::Fault;
@@ -11,6 +11,32 @@ use crate::hex::read_bytes;
 use crate::word::{last_field, next_field, next_number, next_word, number_and_text};
 use notation::read_tokens;
 use std::alloc::Global;
+
+// What a call asks, which says how its answer is shown.
+#[derive(Clone, Copy)]
+pub enum Question {
+    Change,
+    Rows,
+    Page,
+    Pages,
+}
+
+impl Question {
+    // By the first byte of the call.
+    pub fn of(call: &[u8]) -> Question
+        ensures { result ≡ question_of call.now }
+    {
+        let [kind, ..] = call else {
+            return Question::Change;
+        };
+        match *kind {
+            3 => Question::Rows,
+            4 => Question::Page,
+            5 => Question::Pages,
+            _ => Question::Change,
+        }
+    }
+}
 
 // What a line begins with that is a call.
 #[derive(Clone, Copy)]

@@ -1,14 +1,19 @@
-// What files of calls say: lines that open a book, and lines that are calls.
+// What files of calls and answers say as text: lines that open a book and lines that are calls are read, and answers are shown.
 mod call;
 mod entry;
 mod fault;
 mod hex;
 mod laws;
+mod outcome;
 mod reader;
+mod shown;
 mod widths;
 mod word;
 
+pub use call::Question;
 pub use entry::{Entry, read_entry};
 pub use fault::Fault;
-pub use laws::lines_formed;
+pub use laws::{answers_shown, lines_formed};
+pub use outcome::Outcome;
 pub use reader::{Reader, Step};
+pub use shown::Shown;

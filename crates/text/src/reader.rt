@@ -4,13 +4,12 @@ ghost use Rattle.text.specs.declared.reader.State.TheVariants.{Start, Refused};
 ghost use Rattle.text.specs.Calls.{call_of};
 ghost use Rattle.text.specs.Reading.{begins_book, passed_over, entered, called, both_said, Says, step_of, state_after};
 
-use crate::call::{Verb, read_call, verb_of};
+use crate::call::{Question, Verb, read_call, verb_of};
 use crate::entry::{Entry, read_entry};
 use crate::fault::Fault;
 use crate::word::first_word;
 use std::alloc::Global;
 use store::{Limits, Looks};
-use telling::Question;
 
 // What a line asks for.
 #[derive(Drop)]

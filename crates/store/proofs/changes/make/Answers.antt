@@ -95,8 +95,8 @@ returns c =
     let n : kept.paragraphs ≡ get_or rs 4 0 = ap (λ x. x.paragraphs) c.requires.same in
     let size : kept.size ≡ get_or rs 5 0 = ap (λ x. x.size) c.requires.same in
     let bytes : kept.bytes ≡ get_or rs 6 0 = ap (λ x. x.bytes) c.requires.same in
-    let gone : c.len-3.result ≡ bytes_gone (edit_in ch) rs = c.len-3.ensures ∙ ap₂ ◌-◌ c.of_bytes.ensures.to c.of_bytes.ensures.from in
-    let gone_too : c.len-2.result ≡ bytes_gone (edit_in ch) rs = c.len-2.ensures ∙ ap₂ ◌-◌ c.of_bytes.ensures.to c.of_bytes.ensures.from in
+    let gone : c.len-3.result ≡ bytes_gone (edit_in ch) rs = c.len-3.ensures ∙ ap₂ ◌-◌ c.of-bytes.ensures.to c.of-bytes.ensures.from in
+    let gone_too : c.len-2.result ≡ bytes_gone (edit_in ch) rs = c.len-2.ensures ∙ ap₂ ◌-◌ c.of-bytes.ensures.to c.of-bytes.ensures.from in
     let size_off : c.len.result ≡ size_gone (edit_in ch) rs = c.len.ensures ∙ ap₂ ◌-◌ c.of-size.ensures.to c.of-size.ensures.from in
     let p : kept.paragraphs - ch.gone + ch.come ≡ paragraphs_after (edit_in ch) rs = ap (λ x. x - ch.gone + ch.come) n in
     let s : kept.size - c.len.result + ch.size ≡ size_after (edit_in ch) rs = ap₂ (λ x y. x - y + ch.size) size size_off in
@@ -105,5 +105,5 @@ returns c =
     (subst₂ ◌≤◌ p all w.0)
     (subst₂ ◌≤◌ s tokens w.1)
     (subst₂ (λ x y. x ≤ 2 * y) b tokens w.2)
-    (c.splice.ensures ∙ tokens_edited (edit_in ch) ts rs _ _ _ c.of_bytes.ensures.from gone (ap₂ ◌-◌ bytes c.of_bytes.ensures.to))
+    (c.splice.ensures ∙ tokens_edited (edit_in ch) ts rs _ _ _ c.of-bytes.ensures.from gone (ap₂ ◌-◌ bytes c.of-bytes.ensures.to))
     (c.write.ensures ∙ rest_edited ch rs _ _ _ _ _ c.splice-entries.ensures n p s b)

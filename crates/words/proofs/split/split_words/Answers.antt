@@ -11,10 +11,10 @@ pub loop-at-preserved : goal.loop-at-preserved
 loop-at-preserved c =
     elim c.if-atom-eq-GAP.branch [
       | then-atom-eq-GAP w ↦
-          simp (w.work-is, w.words-is, w.word_is, w.starting-word-then-atom-eq-GAP.ensures)
+          simp (w.work-is, w.words-is, w.word-is, w.starting-word-then-atom-eq-GAP.ensures)
           (seen_gap (wide_by c.args.widths.now) c.args.work.now c.args.bulk c.args.atoms c.loop-at.work c.loop-at.at c.loop-at.words c.loop-at.word c.loop-at.invariant c.requires.0 c.requires.1.1 c.loop-at-test.true w.close-word-words.result w.close-word-words.new.work w.if-atom-eq-GAP.true w.close-word-words.ensures.value w.close-word-words.ensures.after)
       | else-atom-eq-GAP w ↦
-          simp (w.work-is, w.words-is, w.word_is, w.with-letter-word.ensures)
+          simp (w.work-is, w.words-is, w.word-is, w.with-letter-word.ensures)
           (seen_letter (wide_by c.args.widths.now) c.args.work.now c.args.bulk c.args.atoms c.loop-at.work c.loop-at.at c.loop-at.words c.loop-at.word c.loop-at.invariant c.requires.0 c.requires.1.1 c.loop-at-test.true w.letter-width.result w.if-atom-eq-GAP.false w.letter-width.ensures.value w.letter-width.ensures.small)
     ]
 

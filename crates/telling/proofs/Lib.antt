@@ -1,4 +1,0 @@
-mod Answered
-mod Letters
-mod Printed
-mod RowParts

@@ -1,4 +1,0 @@
-pub mod Questions
-pub mod Outcomes
-pub mod Shown
-pub mod Laws
