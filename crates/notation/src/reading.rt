@@ -8,7 +8,7 @@ use crate::piece::first_piece;
 pub fn read_tokens(out: &mut Vec<u8>, text: &[u8]) -> Result<(), Fault>
     ensures { ReadsOnto text.now out.old.items out.new.items result }
 {
-    if text == b"\\none" {
+    if text == b"\\none".as_slice() {
         return Ok(());
     }
     let mut rest = text;

@@ -53,19 +53,19 @@ pub enum Verb {
 pub fn verb_of(word: &[u8]) -> Option<Verb>
     ensures { result ≡ verb_of word.now }
 {
-    if word == b"put" {
+    if word == b"put".as_slice() {
         Some(Verb::Put)
-    } else if word == b"define" {
+    } else if word == b"define".as_slice() {
         Some(Verb::Define)
-    } else if word == b"cut" {
+    } else if word == b"cut".as_slice() {
         Some(Verb::Cut)
-    } else if word == b"show" {
+    } else if word == b"show".as_slice() {
         Some(Verb::Show)
-    } else if word == b"where" {
+    } else if word == b"where".as_slice() {
         Some(Verb::Where)
-    } else if word == b"how" {
+    } else if word == b"how".as_slice() {
         Some(Verb::How)
-    } else if word == b"bytes" {
+    } else if word == b"bytes".as_slice() {
         Some(Verb::Bytes)
     } else {
         None
@@ -94,7 +94,7 @@ fn read_put(heap: Global, text: &[u8]) -> Result<Vec<u8>, Fault>
     ensures { Gives (put_line text.now) result }
 {
     if let Some((word, rest)) = next_word(text) {
-        if word == b"in" {
+        if word == b"in".as_slice() {
             return with_tokens(heap, 6, rest);
         }
     }

@@ -30,13 +30,13 @@ enum Keyword {
 fn keyword_of(word: &[u8]) -> Option<Keyword>
     ensures { result ≡ keyword_of word.now }
 {
-    if word == b"limits" {
+    if word == b"limits".as_slice() {
         Some(Keyword::Limits)
-    } else if word == b"widths" {
+    } else if word == b"widths".as_slice() {
         Some(Keyword::Widths)
-    } else if word == b"width" {
+    } else if word == b"width".as_slice() {
         Some(Keyword::Width)
-    } else if word == b"rows" {
+    } else if word == b"rows".as_slice() {
         Some(Keyword::Rows)
     } else {
         None

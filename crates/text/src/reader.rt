@@ -36,7 +36,7 @@ fn begins_book(line: &[u8]) -> bool
     ensures { result ≡ begins_book line.now }
 {
     let (word, _) = first_word(line);
-    word == b"limits"
+    word == b"limits".as_slice()
 }
 
 impl State {

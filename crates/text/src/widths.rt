@@ -28,10 +28,10 @@ fn key_of(word: &[u8]) -> Result<Key, Fault>
     ensures value { result ≡ key_of word.now }
     ensures ok { IfOk result HasWidth }
 {
-    if word == b"space" {
+    if word == b"space".as_slice() {
         return Ok(Key::Letter(b' '));
     }
-    if word == b"others" {
+    if word == b"others".as_slice() {
         return Ok(Key::Others);
     }
     letter_of(word)

@@ -12,6 +12,6 @@ returns-then-out-ne-REFUSED c a old e w =
 pub returns : goal.returns
 returns c a old e w =
     let out = c.args.out.now in
-    let fit : SFits w64 c.below-zero.result = search rules in
-    to_z-of_z w64 c.below-zero.result fit
-    ∙ (c.below-zero.ensures ∙ (ap (refusing (get_or out 1 0)) c.from-be-bytes-place.ensures ∙ told_refusal a out old e c.if-out-ne-REFUSED.false))
+    let fit : SFits w64 c.below_zero.result = search rules in
+    to_z-of_z w64 c.below_zero.result fit
+    ∙ (c.below_zero.ensures ∙ (ap (refusing (get_or out 1 0)) c.from_be_bytes-place.ensures ∙ told_refusal a out old e c.if-out-ne-REFUSED.false))

@@ -4,7 +4,7 @@ use Rattle.linebreak.specs.Slots.{Measured, width_at, line_costs, cost_from}
 use Rattle.linebreak.proofs.Tries.{SolvedFrom, Shown, Tried, tried_one, tried_takes, tried_keeps, tried_stops, tried_all}
 use Rattle.linebreak.proofs.Writes.{line_costs_le, cost_from_le, measured_still, leaves_more, small_more, solved_more, solved_all}
 use Rattle.linebreak.proofs.break_lines.Goals as goal
-use Rattle.linebreak.proofs.break_lines.Goals.{then-with-cost, else-with-cost, else-loop-j-test, then-loop-j-test+then-natural-width+then-cost-lt-STICKS-OUT}
+use Rattle.linebreak.proofs.break_lines.Goals.{then-with-cost, else-with-cost, else-loop-j-test, then-loop-j-test+then-natural-width+then-cost-lt-STICKS_OUT}
 
 pub loop-j-init : goal.loop-j-init
 loop-j-init c =
@@ -25,8 +25,8 @@ loop-j-preserved c =
     let n : ℕ = c.args.n in
     let xs = c.loop-i.slots in
     let narrow : width_at xs j ≤ 1048576 = omega (arith, c.loop-i.invariant.0.others (8 * j + 2) (λ k h. omega arith), c.requires.each j (omega arith)) in
-    let with : ℕ = c.line-cost-in-loop-j.result + c.cost-from-in-loop-j.result in
-    let with_is : with ≡ line_costs c.args.width (c.loop-j.natural + (c.args.space + width_at xs j)) (eqb (j + 1) n) + cost_from xs n (j + 1) = ap₂ (λ (a b : ℕ). a + b) c.line-cost-in-loop-j.ensures c.cost-from-in-loop-j.ensures in (
+    let with : ℕ = c.line_cost-in-loop-j.result + c.cost_from-in-loop-j.result in
+    let with_is : with ≡ line_costs c.args.width (c.loop-j.natural + (c.args.space + width_at xs j)) (eqb (j + 1) n) + cost_from xs n (j + 1) = ap₂ (λ (a b : ℕ). a + b) c.line_cost-in-loop-j.ensures c.cost_from-in-loop-j.ensures in (
       omega arith,
       elim c.if-with-cost.branch [ then-with-cost w ↦ omega (arith, w.cost-is) | else-with-cost w ↦ omega (arith, w.cost-is) ],
       elim c.if-with-cost.branch [ then-with-cost w ↦ omega (arith, w.words-is) | else-with-cost w ↦ omega (arith, w.words-is) ],
@@ -52,7 +52,7 @@ loop-i-preserved c =
           let t : Tried wide c.args.width ws i (c.loop-j.j - i) c.loop-j.natural c.loop-j.cost c.loop-j.words = c.loop-j.invariant.3 wide ws still later in
           let shown : Shown (best wide c.args.width (drop i ws)) c.loop-j.cost c.loop-j.words = elim c.loop-j-test.branch [
             | else-loop-j-test w ↦ let all : c.loop-j.j ≡ n = omega (arith, w.loop-j-test.false) in tried_all wide c.args.width ws xs n c.args.space still i c.loop-j.natural c.loop-j.cost c.loop-j.words (rw all at t)
-            | then-loop-j-test+then-natural-width+then-cost-lt-STICKS-OUT w ↦ tried_stops wide c.args.width ws xs n c.args.space still i l later c.loop-j.j c.loop-j.natural c.loop-j.cost c.loop-j.words (omega arith) (omega (arith, w.loop-j-test.true)) t (omega (arith, w.if-natural-width.true)) (omega (arith, w.if-cost-lt-STICKS-OUT.true))
+            | then-loop-j-test+then-natural-width+then-cost-lt-STICKS_OUT w ↦ tried_stops wide c.args.width ws xs n c.args.space still i l later c.loop-j.j c.loop-j.natural c.loop-j.cost c.loop-j.words (omega arith) (omega (arith, w.loop-j-test.true)) t (omega (arith, w.if-natural-width.true)) (omega (arith, w.if-cost-lt-STICKS_OUT.true))
           ] in
           solved_more xs i c.loop-j.cost c.loop-j.words n l room wide c.args.width ws later shown,
     )

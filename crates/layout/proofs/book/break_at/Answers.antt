@@ -5,18 +5,18 @@ use Rattle.layout.specs.Books.{bytes_at}
 use Rattle.layout.proofs.OpenBooks.{in_range, paragraph_there, part_room, same_given_back, work_given_back}
 use Rattle.layout.proofs.book.break_at.Goals as goal
 
-pub overflow-mul-end : goal.overflow-mul-end
-overflow-mul-end c =
+pub overflow_mul-end : goal.overflow_mul-end
+overflow_mul-end c =
     let g = in_range c.args.tokens.now c.args.rest.now c.requires.opened in
     omega (arith, g.few, g.within, c.requires.there)
 
-pub overflow-add-end : goal.overflow-add-end
-overflow-add-end c =
+pub overflow_add-end : goal.overflow_add-end
+overflow_add-end c =
     let g = in_range c.args.tokens.now c.args.rest.now c.requires.opened in
     omega (arith, g.few, g.within, c.requires.there)
 
-pub offset-bounds-rest-k : goal.offset-bounds-rest-k
-offset-bounds-rest-k c =
+pub offset_bounds-rest-k : goal.offset_bounds-rest-k
+offset_bounds-rest-k c =
     let g = in_range c.args.tokens.now c.args.rest.now c.requires.opened in
     omega (arith, g.few, g.within, c.requires.there)
 
@@ -25,33 +25,33 @@ bounds-rest-k c =
     let t = paragraph_there c.args.tokens.now c.args.rest.now c.args.k c.requires.opened c.requires.there in
     omega (arith, t.in_table)
 
-pub overflow-add-end-2 : goal.overflow-add-end-2
-overflow-add-end-2 c =
+pub overflow_add-end-2 : goal.overflow_add-end-2
+overflow_add-end-2 c =
     let t = paragraph_there c.args.tokens.now c.args.rest.now c.args.k c.requires.opened c.requires.there in
     omega (arith, t.few, c.requires.begins)
 
-pub slice-bounds-break-paragraph-end : goal.slice-bounds-break-paragraph-end
-slice-bounds-break-paragraph-end c =
+pub slice_bounds-break_paragraph-end : goal.slice_bounds-break_paragraph-end
+slice_bounds-break_paragraph-end c =
     let t = paragraph_there c.args.tokens.now c.args.rest.now c.args.k c.requires.opened c.requires.there in
     omega (arith, t.end, c.requires.begins)
 
-pub offset-bounds-rest-start : goal.offset-bounds-rest-start
-offset-bounds-rest-start c =
+pub offset_bounds-rest-start : goal.offset_bounds-rest-start
+offset_bounds-rest-start c =
     let g = in_range c.args.tokens.now c.args.rest.now c.requires.opened in
     omega (arith, g.few, c.requires.start)
 
-pub slice-bounds-break-paragraph-count-2 : goal.slice-bounds-break-paragraph-count-2
-slice-bounds-break-paragraph-count-2 c =
+pub slice_bounds-break_paragraph-count-2 : goal.slice_bounds-break_paragraph-count-2
+slice_bounds-break_paragraph-count-2 c =
     let g = in_range c.args.tokens.now c.args.rest.now c.requires.opened in
     omega (arith, g.room, c.requires.start)
 
-pub slice-bounds-break-paragraph-start-2 : goal.slice-bounds-break-paragraph-start-2
-slice-bounds-break-paragraph-start-2 c =
+pub slice_bounds-break_paragraph-start-2 : goal.slice_bounds-break_paragraph-start-2
+slice_bounds-break_paragraph-start-2 c =
     let g = in_range c.args.tokens.now c.args.rest.now c.requires.opened in
     omega (arith, g.room, c.requires.start)
 
-pub break-paragraph-words-requires : goal.break-paragraph-words-requires
-break-paragraph-words-requires c =
+pub break_paragraph-words-requires : goal.break_paragraph-words-requires
+break_paragraph-words-requires c =
     let b = c.args.book.now in
     let g = in_range c.args.tokens.now c.args.rest.now c.requires.opened in
     (omega (arith, g.bulk, c.requires.bulk), (part_room c.args.rest.now [] b (omega (arith, g.room, c.requires.start, c.requires.bulk)), omega (arith, g.width, c.requires.width)))
@@ -68,8 +68,8 @@ returns c =
     let bytes : take (c.args.at + n - c.args.at) (drop c.args.at ts) ≡ bytes_at ts rs c.args.k = ap₂ (λ i j. take i (drop j ts)) size c.requires.begins in
     record {
       lines =
-          subst (λ (work : List ℕ). Broken b.sheet (paragraph_words b.sheet (bytes_at ts rs c.args.k)) work c.break-paragraph-words.result) (sym (work_given_back rs c.break-paragraph-words.new.work b room))
-          (subst (λ (bs : List ℕ). Broken b.sheet (paragraph_words b.sheet bs) c.break-paragraph-words.new.work c.break-paragraph-words.result) bytes c.break-paragraph-words.ensures.lines);
+          subst (λ (work : List ℕ). Broken b.sheet (paragraph_words b.sheet (bytes_at ts rs c.args.k)) work c.break_paragraph-words.result) (sym (work_given_back rs c.break_paragraph-words.new.work b room))
+          (subst (λ (bs : List ℕ). Broken b.sheet (paragraph_words b.sheet bs) c.break_paragraph-words.new.work c.break_paragraph-words.result) bytes c.break_paragraph-words.ensures.lines);
       end = ap (λ m. m + n) c.requires.begins ∙ sym (table_sum_more 64 c.args.k rs);
-      same = same_given_back rs c.break-paragraph-words.new.work b room c.break-paragraph-words.ensures.same;
+      same = same_given_back rs c.break_paragraph-words.new.work b room c.break_paragraph-words.ensures.same;
     }

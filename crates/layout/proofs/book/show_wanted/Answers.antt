@@ -31,15 +31,15 @@ returns-then-walk-wanted-2 c =
       same = c.seek.ensures.same;
     }
 
-pub write-from-requires : goal.write-from-requires
-write-from-requires c =
+pub write_from-requires : goal.write_from-requires
+write_from-requires c =
     let ts = c.args.tokens.now in
     let rs = c.args.rest.now in
     let b = c.args.book.now in
     let xs = c.seek.new.rest in
     let same = c.seek.ensures.same in
     let room = c.requires.1.1.1.1 in
-    let long = ap length c.write-rows.ensures ∙ length_over (2 ∷ (c.args.wanted.count ∷ [])) c.args.out.now (omega arith) in
+    let long = ap length c.write_rows.ensures ∙ length_over (2 ∷ (c.args.wanted.count ∷ [])) c.args.out.now (omega arith) in
     (same_opened ts rs b c.requires.0 xs same, (same_place ts rs b c.requires.0 xs same c.seek.result.from c.seek.ensures.found.from, omega (arith, long, room)))
 
 pub returns : goal.returns
@@ -56,9 +56,9 @@ returns c =
     let page : f.walk.pages ≡ q.page + 1 = omega arith in
     let enough : q.row + q.count ≤ f.walk.lines = omega arith in
     record {
-      value = shown_there ts rs q f found page enough c.write-from.result (c.write-from.ensures.value ∙ ap (λ (ls : List Line). finish_at (wanted_rows ts rs q f found page enough) (letters_of ls)) lines);
+      value = shown_there ts rs q f found page enough c.write_from.result (c.write_from.ensures.value ∙ ap (λ (ls : List Line). finish_at (wanted_rows ts rs q f found page enough) (letters_of ls)) lines);
       after =
-          written_there ts rs q f found page enough c.args.out.now c.write-rows.new.out c.write-from.new.out (omega (arith, c.requires.1.1.1.1)) c.write-rows.ensures
-          (c.write-from.ensures.after ∙ ap (λ (ls : List Line). finish (wanted_rows ts rs q f found page enough) (letters_of ls) c.write-rows.new.out) lines);
-      same = same_more b rs xs c.write-from.new.rest same c.write-from.ensures.same;
+          written_there ts rs q f found page enough c.args.out.now c.write_rows.new.out c.write_from.new.out (omega (arith, c.requires.1.1.1.1)) c.write_rows.ensures
+          (c.write_from.ensures.after ∙ ap (λ (ls : List Line). finish (wanted_rows ts rs q f found page enough) (letters_of ls) c.write_rows.new.out) lines);
+      same = same_more b rs xs c.write_from.new.rest same c.write_from.ensures.same;
     }

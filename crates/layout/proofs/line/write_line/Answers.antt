@@ -23,14 +23,14 @@ returns c =
     let bytes = words_bytes (wide_by sheet.widths) 0 (line_words work sheet line) gaps.each gaps.extra in
     let is_set =
     line_set work sheet line c.requires.0 c.of-letters.result.width c.room-room.result gaps c.of-letters.ensures.width c.room-room.ensures
-    (c.sharing-gaps.ensures ∙ ap (shares c.room-room.result) c.saturating-sub.ensures)
+    (c.sharing-gaps.ensures ∙ ap (shares c.room-room.result) c.saturating_sub.ensures)
     in
     let all : line_bytes work sheet line ≡ two letters ++ bytes = line_bytes_set work sheet line c.requires.0 letters gaps c.of-letters.ensures.letters is_set in
     record {
       value = omega (arith, length_line_bytes work sheet line, c.of-letters.ensures.letters);
       after =
-          written_part 2 bytes c.write-row.new.out c.write-words.new.out c.write-words.ensures
-          ∙ ap (written 2 bytes) c.write-row.ensures
+          written_part 2 bytes c.write_row.new.out c.write_words.new.out c.write_words.ensures
+          ∙ ap (written 2 bytes) c.write_row.ensures
           ∙ over_more (two letters) bytes out (omega (arith, c.requires.1))
           ∙ ap (λ bs. over bs out) (sym all);
     }

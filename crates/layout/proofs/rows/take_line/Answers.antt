@@ -15,10 +15,10 @@ returns-then-rows-gt0 c =
       room = c.requires.1.1;
     }
 
-pub overflow-add-result : goal.overflow-add-result
-overflow-add-result c =
+pub overflow_add-result : goal.overflow_add-result
+overflow_add-result c =
     let size = length_line_bytes c.args.work.now c.args.sheet.now c.args.line in
-    omega (arith, size, c.write-line-bytes.ensures.value, c.requires.0.letters, c.requires.1.0, c.requires.1.1)
+    omega (arith, size, c.write_line-bytes.ensures.value, c.requires.0.letters, c.requires.1.0, c.requires.1.1)
 
 pub returns : goal.returns
 returns c =
@@ -30,8 +30,8 @@ returns c =
     let size = length_line_bytes work s c.args.line in
     let fits : r.end + length (line_bytes work s c.args.line) ≤ length out = omega (arith, size, c.requires.0.letters, c.requires.1.0, c.requires.1.1) in
     let none : r.skip ≡ 0 = omega (arith, c.if-rows-gt0.false) in
-    let after = written_part r.end (line_bytes work s c.args.line) out c.write-line-bytes.new.out c.write-line-bytes.ensures.after in
-    let value = c.write-line-bytes.ensures.value in
+    let after = written_part r.end (line_bytes work s c.args.line) out c.write_line-bytes.new.out c.write_line-bytes.ensures.after in
+    let value = c.write_line-bytes.ensures.value in
     record {
       after = λ more.
           ap₂ (λ (n : ℕ) (o : List ℕ). finish (record { skip = 0; left = r.left - 1; end = r.end + n }) more o) value after

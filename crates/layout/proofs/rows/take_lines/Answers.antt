@@ -8,22 +8,22 @@ use Rattle.layout.proofs.rows.take_lines.Goals as goal
 pub loop-first-init : goal.loop-first-init
 loop-first-init c = (omega arith, c.requires.1, λ more. refl, λ more. refl)
 
-pub overflow-add-line : goal.overflow-add-line
-overflow-add-line c =
+pub overflow_add-line : goal.overflow_add-line
+overflow_add-line c =
     let s = c.args.sheet.now in
     let work = c.args.work.now in
     let k : ℕ = c.loop-first.first in
     omega (arith, size_there s work c.args.n c.requires.0 k, within_words s work c.args.n c.requires.0 k (omega arith), c.requires.0.few)
 
-pub take-line-rows-requires : goal.take-line-rows-requires
-take-line-rows-requires c =
+pub take_line-rows-requires : goal.take_line-rows-requires
+take_line-rows-requires c =
     let s = c.args.sheet.now in
     let work = c.args.work.now in
     let k : ℕ = c.loop-first.first in
     (line_fits s work c.args.n c.requires.0 k _ _ (omega arith) (size_there s work c.args.n c.requires.0 k), (c.if-rows-gt0.true, c.loop-first.invariant.1))
 
-pub overflow-add-first : goal.overflow-add-first
-overflow-add-first c =
+pub overflow_add-first : goal.overflow_add-first
+overflow_add-first c =
     let s = c.args.sheet.now in
     let work = c.args.work.now in
     let k : ℕ = c.loop-first.first in
@@ -46,13 +46,13 @@ loop-first-preserved c =
     let size : j ≡ size_at s work n c.requires.0 k = size_there s work n c.requires.0 k in
     let row = row_there s work n c.requires.0 k j (eqb (k + j) n) (omega arith) size refl in (
       omega (arith, size, within_words s work n c.requires.0 k (omega arith)),
-      c.take-line-rows.ensures.room,
+      c.take_line-rows.ensures.room,
       λ more.
-          c.take-line-rows.ensures.after (rows_from s work n c.requires.0 (k + j) ++ more)
+          c.take_line-rows.ensures.after (rows_from s work n c.requires.0 (k + j) ++ more)
           ∙ ap (λ (xs : List (List Placed)). finish c.loop-first.rows (xs ++ more) c.loop-first.out) (sym row)
           ∙ c.loop-first.invariant.2 more,
       λ more.
-          c.take-line-rows.ensures.end (rows_from s work n c.requires.0 (k + j) ++ more)
+          c.take_line-rows.ensures.end (rows_from s work n c.requires.0 (k + j) ++ more)
           ∙ ap (λ (xs : List (List Placed)). finish_at c.loop-first.rows (xs ++ more)) (sym row)
           ∙ c.loop-first.invariant.3 more,
     )

@@ -19,8 +19,8 @@ step-walk-requires c =
     let few = c.requires.0.few in
     (omega arith, (omega arith, omega arith))
 
-pub overflow-add-first-in-loop-first-2 : goal.overflow-add-first-in-loop-first-2
-overflow-add-first-in-loop-first-2 c =
+pub overflow_add-first-in-loop-first-2 : goal.overflow_add-first-in-loop-first-2
+overflow_add-first-in-loop-first-2 c =
     let s = c.args.sheet.now in
     let work = c.args.work.now in
     let k : ℕ = c.loop-first.first in
@@ -43,14 +43,14 @@ loop-first-preserved c =
     let some = some_words s work n c.requires.0 k (omega arith) in (
       omega (arith, size, within_words s work n c.requires.0 k (omega arith)),
       grown_step s.rows k _ c.args.walk c.loop-first.walk c.step-walk.result c.loop-first.invariant.1 c.step-walk.ensures (omega (arith, size, some)),
-      walk_on s work n c.requires.0 s.rows c.args.goal c.loop-first.walk c.step-walk.result k _ (omega arith) size (sym c.if-not-has-reached.ensures) c.step-walk.ensures
+      walk_on s work n c.requires.0 s.rows c.args.goal c.loop-first.walk c.step-walk.result k _ (omega arith) size (sym c.if-not-has_reached.ensures) c.step-walk.ensures
           ∙ c.loop-first.invariant.2,
     )
 
-pub returns-else-not-has-reached : goal.returns-else-not-has-reached
-returns-else-not-has-reached c =
+pub returns-else-not-has_reached : goal.returns-else-not-has_reached
+returns-else-not-has_reached c =
     record {
-      value = sym (sought_reached c.args.sheet.now.rows c.args.goal _ c.loop-first.walk (sym c.if-not-has-reached.ensures)) ∙ c.loop-first.invariant.2;
+      value = sym (sought_reached c.args.sheet.now.rows c.args.goal _ c.loop-first.walk (sym c.if-not-has_reached.ensures)) ∙ c.loop-first.invariant.2;
       grown = grown_more c.loop-first.first c.args.n c.args.walk c.loop-first.walk c.loop-first.invariant.1 c.loop-first.invariant.0;
     }
 

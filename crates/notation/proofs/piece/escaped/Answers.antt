@@ -7,38 +7,38 @@ use Rattle.notation.specs.Pieces.{worded, escaped}
 use Rattle.notation.proofs.Escapes.{escaped_letter, escaped_mark, escaped_page_of, escaped_word}
 use Rattle.notation.proofs.piece.escaped.Goals as goal
 
-pub returns-in-default : goal.returns-in-default
+pub returns-in_default : goal.returns-in_default
 unfolding escaped
-returns-in-default c = sym (ap escaped (nil_from_length c.args.text.now (omega (arith, ltb-true))))
+returns-in_default c = sym (ap escaped (nil_from_length c.args.text.now (omega (arith, ltb-true))))
 
 pub returns-in-92 : goal.returns-in-92
 returns-in-92 c =
     let cut = first_rest c.args.text.now 0 (omega (arith, ltb-false)) in
     sym (ap escaped cut ∙ escaped_letter _ _ c.in-92.is)
 
-pub returns-in-err-n : goal.returns-in-err-n
-returns-in-err-n c =
+pub returns-in_err-n : goal.returns-in_err-n
+returns-in_err-n c =
     let cut = first_rest c.args.text.now 0 (omega (arith, ltb-false)) in
-    let p = err_from_is_err_and c.from-residual.result c.from-residual.ensures.1 in
-    sym (ap escaped cut ∙ (escaped_mark _ _ c.in-109.is ∙ rw (← c.in-err-n.ensures, p.1, p.2) refl))
+    let p = err_from_is_err_and c.from_residual.result c.from_residual.ensures.1 in
+    sym (ap escaped cut ∙ (escaped_mark _ _ c.in-109.is ∙ rw (← c.in_err-n.ensures, p.1, p.2) refl))
 
-pub returns-in-ok-n : goal.returns-in-ok-n
-returns-in-ok-n c =
+pub returns-in_ok-n : goal.returns-in_ok-n
+returns-in_ok-n c =
     let cut = first_rest c.args.text.now 0 (omega (arith, ltb-false)) in
-    sym (ap escaped cut ∙ (escaped_mark _ _ c.in-109.is ∙ rw (← c.in-ok-n.ensures) refl))
+    sym (ap escaped cut ∙ (escaped_mark _ _ c.in-109.is ∙ rw (← c.in_ok-n.ensures) refl))
 
-pub returns-in-err-n-2 : goal.returns-in-err-n-2
-returns-in-err-n-2 c =
+pub returns-in_err-n-2 : goal.returns-in_err-n-2
+returns-in_err-n-2 c =
     let cut = first_rest c.args.text.now 0 (omega (arith, ltb-false)) in
-    let p = err_from_is_err_and c.from-residual-in-err-n-2.result c.from-residual-in-err-n-2.ensures.1 in
-    sym (ap escaped cut ∙ (escaped_page_of _ _ c.in-112.is ∙ rw (← c.in-err-n-2.ensures, p.1, p.2) refl))
+    let p = err_from_is_err_and c.from_residual-in_err-n-2.result c.from_residual-in_err-n-2.ensures.1 in
+    sym (ap escaped cut ∙ (escaped_page_of _ _ c.in-112.is ∙ rw (← c.in_err-n-2.ensures, p.1, p.2) refl))
 
-pub returns-in-ok-n-2 : goal.returns-in-ok-n-2
-returns-in-ok-n-2 c =
+pub returns-in_ok-n-2 : goal.returns-in_ok-n-2
+returns-in_ok-n-2 c =
     let cut = first_rest c.args.text.now 0 (omega (arith, ltb-false)) in
-    sym (ap escaped cut ∙ (escaped_page_of _ _ c.in-112.is ∙ rw (← c.in-ok-n-2.ensures) refl))
+    sym (ap escaped cut ∙ (escaped_page_of _ _ c.in-112.is ∙ rw (← c.in_ok-n-2.ensures) refl))
 
-pub returns-in-default-first : goal.returns-in-default-first
-returns-in-default-first c =
+pub returns-in_default-first : goal.returns-in_default-first
+returns-in_default-first c =
     let cut = first_rest c.args.text.now 0 (omega (arith, ltb-false)) in
     c.worded.ensures ∙ sym (ap escaped cut ∙ (escaped_word _ _ (search rules) (search rules) (search rules) ∙ ap worded (sym cut)))

@@ -19,8 +19,8 @@ pub returns-in-125 : goal.returns-in-125
 unfolding first_piece
 returns-in-125 c = rw c.in-125.is refl
 
-pub returns-in-default : goal.returns-in-default
+pub returns-in_default : goal.returns-in_default
 unfolding first_piece
-returns-in-default c =
+returns-in_default c =
     let b = c.args.first in
     rw (ne_eqb b 32 (λ e. omega arith), ne_eqb b 92 (λ e. omega arith), ne_eqb b 123 (λ e. omega arith), ne_eqb b 125 (λ e. omega arith)) refl

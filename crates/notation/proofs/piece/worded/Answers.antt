@@ -11,25 +11,25 @@ returns-in-Some c =
     let note = same_as_told (take 5 c.args.text.now) (codes "note{") true told.0 in
     rw (note, told.1) refl
 
-pub returns-in-Some-strip-prefix : goal.returns-in-Some-strip-prefix
+pub returns-in-Some-strip_prefix : goal.returns-in-Some-strip_prefix
 unfolding worded
-returns-in-Some-strip-prefix c =
-    let told = c.in-Some-strip-prefix.ensures.cases in
-    let note = same_as_told (take 5 c.args.text.now) (codes "note{") false c.in-default.ensures.cases in
+returns-in-Some-strip_prefix c =
+    let told = c.in-Some-strip_prefix.ensures.cases in
+    let note = same_as_told (take 5 c.args.text.now) (codes "note{") false c.in_default.ensures.cases in
     let given = same_as_told (take 5 c.args.text.now) (codes "given") true told.0 in
     rw (note, given, told.1) refl
 
-pub returns-in-err-n : goal.returns-in-err-n
+pub returns-in_err-n : goal.returns-in_err-n
 unfolding worded
-returns-in-err-n c =
-    let note = same_as_told (take 5 c.args.text.now) (codes "note{") false c.in-default.ensures.cases in
-    let given = same_as_told (take 5 c.args.text.now) (codes "given") false c.in-default-strip-prefix.ensures.cases in
-    let p = err_from_is_err_and c.from-residual.result c.from-residual.ensures.1 in
-    rw (note, given, p.1, p.2, ← c.in-err-n.ensures) refl
+returns-in_err-n c =
+    let note = same_as_told (take 5 c.args.text.now) (codes "note{") false c.in_default.ensures.cases in
+    let given = same_as_told (take 5 c.args.text.now) (codes "given") false c.in_default-strip_prefix.ensures.cases in
+    let p = err_from_is_err_and c.from_residual.result c.from_residual.ensures.1 in
+    rw (note, given, p.1, p.2, ← c.in_err-n.ensures) refl
 
 pub returns : goal.returns
 unfolding worded
 returns c =
-    let note = same_as_told (take 5 c.args.text.now) (codes "note{") false c.in-default.ensures.cases in
-    let given = same_as_told (take 5 c.args.text.now) (codes "given") false c.in-default-strip-prefix.ensures.cases in
-    rw (note, given, ← c.in-ok-n.ensures) refl
+    let note = same_as_told (take 5 c.args.text.now) (codes "note{") false c.in_default.ensures.cases in
+    let given = same_as_told (take 5 c.args.text.now) (codes "given") false c.in_default-strip_prefix.ensures.cases in
+    rw (note, given, ← c.in_ok-n.ensures) refl

@@ -39,35 +39,35 @@ ended c =
     subst (λ left. SoFar c.args.text.now (vec_items c.args.out.now) c.loop-rest.depth left (vec_items c.loop-rest.out))
     (nil_from_length c.loop-rest.rest.now (omega (arith, ltb-true))) c.loop-rest.invariant
 
-pub returns-in-err-piece : goal.returns-in-err-piece
-returns-in-err-piece c =
-    let p = err_from_is_err_and c.from-residual.result c.from-residual.ensures.1 in
+pub returns-in_err-piece : goal.returns-in_err-piece
+returns-in_err-piece c =
+    let p = err_from_is_err_and c.from_residual.result c.from_residual.ensures.1 in
     rw (p.1, p.2)
-    (inr (not_none (goal.at.returns-in-err-piece c).Else-eq
-    ∙ so_far_fault _ _ _ _ _ _ (so_far (goal.at.returns-in-err-piece c).In-len1-up) _ c.in-err-piece.ensures))
+    (inr (not_none (goal.at.returns-in_err-piece c).Else-eq
+    ∙ so_far_fault _ _ _ _ _ _ (so_far (goal.at.returns-in_err-piece c).In-len1-up) _ c.in_err-piece.ensures))
 
-pub depth-after-requires : goal.depth-after-requires
-depth-after-requires c = omega (arith, c.loop-rest.invariant.few, ltb-false)
+pub depth_after-requires : goal.depth_after-requires
+depth_after-requires c = omega (arith, c.loop-rest.invariant.few, ltb-false)
 
-pub returns-in-err-depth : goal.returns-in-err-depth
-returns-in-err-depth c =
-    let p = err_from_is_err_and c.from-residual-in-err-depth.result c.from-residual-in-err-depth.ensures.1 in
+pub returns-in_err-depth : goal.returns-in_err-depth
+returns-in_err-depth c =
+    let p = err_from_is_err_and c.from_residual-in_err-depth.result c.from_residual-in_err-depth.ensures.1 in
     rw (p.1, p.2)
-    (inr (not_none (goal.at.returns-in-err-depth c).Else-eq
-    ∙ so_far_deep _ _ _ _ _ _ (so_far (goal.at.returns-in-err-depth c).In-len1-up) _ _ c.in-ok-piece.ensures _ c.in-err-depth.ensures))
+    (inr (not_none (goal.at.returns-in_err-depth c).Else-eq
+    ∙ so_far_deep _ _ _ _ _ _ (so_far (goal.at.returns-in_err-depth c).In-len1-up) _ _ c.in_ok-piece.ensures _ c.in_err-depth.ensures))
 
-pub returns-in-err-write : goal.returns-in-err-write
-returns-in-err-write c =
-    let p = err_from_is_err_and c.from-residual-in-err-write.result c.from-residual-in-err-write.ensures.1 in
-    rw (p.1, p.2) (inl c.in-err-write.ensures)
+pub returns-in_err-write : goal.returns-in_err-write
+returns-in_err-write c =
+    let p = err_from_is_err_and c.from_residual-in_err-write.result c.from_residual-in_err-write.ensures.1 in
+    rw (p.1, p.2) (inl c.in_err-write.ensures)
 
 pub loop-rest-smaller : goal.loop-rest-smaller
 loop-rest-smaller c =
-    omega (arith, ap length (first (goal.at.loop-rest-smaller c).In-len1-up), shorter _ _ _ _ _ _ (so_far (goal.at.loop-rest-smaller c).In-len1-up) _ _ c.in-ok-piece.ensures)
+    omega (arith, ap length (first (goal.at.loop-rest-smaller c).In-len1-up), shorter _ _ _ _ _ _ (so_far (goal.at.loop-rest-smaller c).In-len1-up) _ _ c.in_ok-piece.ensures)
 
 pub loop-rest-preserved : goal.loop-rest-preserved
 loop-rest-preserved c =
-    so_far_more _ _ _ _ _ _ (so_far (goal.at.loop-rest-preserved c).In-len1-up) _ _ c.in-ok-piece.ensures _ _ c.in-ok-depth.ensures c.in-ok-write.ensures
+    so_far_more _ _ _ _ _ _ (so_far (goal.at.loop-rest-preserved c).In-len1-up) _ _ c.in_ok-piece.ensures _ _ c.in_ok-depth.ensures c.in_ok-write.ensures
 
 pub returns-then-depth-gt0 : goal.returns-then-depth-gt0
 returns-then-depth-gt0 c =

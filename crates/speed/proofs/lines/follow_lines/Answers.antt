@@ -20,10 +20,10 @@ loop-lines-preserved c =
     let left : n - c.loop-lines.lines ≡ suc m = omega arith in
     let next : ℕ = at + words_at xs at in
     let step : length (followed (suc m) xs n at) ≡ suc (length (followed m xs n next)) = followed_step xs n m at (omega arith) in
-    let near : length (followed m xs n c.saturating-add-first.result) ≡ length (followed m xs n next) =
-    ap length (followed_near xs n m c.saturating-add-first.result next (elim (cases_lt next 18446744073709551616) [
-      | inl l ↦ inl (omega (arith, c.saturating-add-first.ensures))
-      | inr l ↦ inr (omega (arith, c.saturating-add-first.ensures), omega arith)
+    let near : length (followed m xs n c.saturating_add-first.result) ≡ length (followed m xs n next) =
+    ap length (followed_near xs n m c.saturating_add-first.result next (elim (cases_lt next 18446744073709551616) [
+      | inl l ↦ inl (omega (arith, c.saturating_add-first.ensures))
+      | inr l ↦ inr (omega (arith, c.saturating_add-first.ensures), omega arith)
     ]))
     in
     let inv : c.loop-lines.lines + length (followed (n - c.loop-lines.lines) xs n at) ≡ length (followed n xs n 0) = c.loop-lines.invariant in

@@ -14,8 +14,8 @@ of-size-requires c =
     let (k, b, s) = known c.args.tokens.now c.args.rest.now c.args.kept c.args.change c.requires (omega arith) in
     (omega arith, omega arith)
 
-pub overflow-add-after : goal.overflow-add-after
-overflow-add-after c =
+pub overflow_add-after : goal.overflow_add-after
+overflow_add-after c =
     let (k, b, s) = known c.args.tokens.now c.args.rest.now c.args.kept c.args.change c.requires (omega arith) in
     omega arith
 
@@ -24,13 +24,13 @@ len-requires c =
     let (k, b, s) = known c.args.tokens.now c.args.rest.now c.args.kept c.args.change c.requires (omega arith) in
     omega arith
 
-pub overflow-sub-after-2 : goal.overflow-sub-after-2
-overflow-sub-after-2 c =
+pub overflow_sub-after-2 : goal.overflow_sub-after-2
+overflow_sub-after-2 c =
     let (k, b, s) = known c.args.tokens.now c.args.rest.now c.args.kept c.args.change c.requires (omega arith) in
     omega arith
 
-pub overflow-add-after-2 : goal.overflow-add-after-2
-overflow-add-after-2 c =
+pub overflow_add-after-2 : goal.overflow_add-after-2
+overflow_add-after-2 c =
     let (k, b, s) = known c.args.tokens.now c.args.rest.now c.args.kept c.args.change c.requires (omega arith) in
     omega arith
 
@@ -39,13 +39,13 @@ len-requires-2 c =
     let (k, b, s) = known c.args.tokens.now c.args.rest.now c.args.kept c.args.change c.requires (omega arith) in
     omega arith
 
-pub overflow-sub-after-3 : goal.overflow-sub-after-3
-overflow-sub-after-3 c =
+pub overflow_sub-after-3 : goal.overflow_sub-after-3
+overflow_sub-after-3 c =
     let (k, b, s) = known c.args.tokens.now c.args.rest.now c.args.kept c.args.change c.requires (omega arith) in
     omega arith
 
-pub overflow-add-after-3 : goal.overflow-add-after-3
-overflow-add-after-3 c =
+pub overflow_add-after-3 : goal.overflow_add-after-3
+overflow_add-after-3 c =
     let (k, b, s) = known c.args.tokens.now c.args.rest.now c.args.kept c.args.change c.requires (omega arith) in
     omega arith
 
@@ -59,8 +59,8 @@ len-requires-3 c =
     let (k, b, s) = known c.args.tokens.now c.args.rest.now c.args.kept c.args.change c.requires (omega arith) in
     omega arith
 
-pub overflow-sub-kept : goal.overflow-sub-kept
-overflow-sub-kept c =
+pub overflow_sub-kept : goal.overflow_sub-kept
+overflow_sub-kept c =
     let (k, b, s) = known c.args.tokens.now c.args.rest.now c.args.kept c.args.change c.requires (omega arith) in
     omega arith
 
@@ -70,15 +70,15 @@ splice-requires c =
     let w = within_parts _ c.args.kept c.if-not-within.ensures in
     omega (arith, w.2)
 
-pub splice-entries-requires : goal.splice-entries-requires
-splice-entries-requires c =
+pub splice_entries-requires : goal.splice_entries-requires
+splice_entries-requires c =
     let (k, b, s) = known c.args.tokens.now c.args.rest.now c.args.kept c.args.change c.requires (omega arith) in
     record { gone_few = c.requires.gone_few; come_few = c.requires.come_few; there = omega arith; few = omega arith; long = omega arith }
 
 pub write-requires : goal.write-requires
 write-requires c =
     let (k, b, s) = known c.args.tokens.now c.args.rest.now c.args.kept c.args.change c.requires (omega arith) in
-    omega (arith, c.splice-entries.auto.rest)
+    omega (arith, c.splice_entries.auto.rest)
 
 pub returns : goal.returns
 returns c =
@@ -106,4 +106,4 @@ returns c =
     (subst₂ ◌≤◌ s tokens w.1)
     (subst₂ (λ x y. x ≤ 2 * y) b tokens w.2)
     (c.splice.ensures ∙ tokens_edited (edit_in ch) ts rs _ _ _ c.of-bytes.ensures.from gone (ap₂ ◌-◌ bytes c.of-bytes.ensures.to))
-    (c.write.ensures ∙ rest_edited ch rs _ _ _ _ _ c.splice-entries.ensures n p s b)
+    (c.write.ensures ∙ rest_edited ch rs _ _ _ _ _ c.splice_entries.ensures n p s b)

@@ -4,4 +4,4 @@ use Rattle.store.proofs.opening.packed_from.Goals as goal
 
 pub returns : goal.returns
 unfolding packed
-returns c = omega (arith, c.from-le-bytes.ensures)
+returns c = omega (arith, c.from_le_bytes.ensures)

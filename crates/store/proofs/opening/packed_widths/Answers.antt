@@ -6,8 +6,8 @@ use Rattle.store.proofs.Fresh.{widths_more}
 
 pub loop-i-preserved : goal.loop-i-preserved
 loop-i-preserved c = (
-  length-set c.loop-i.packed c.loop-i.i c.packed-from.result ∙ c.loop-i.invariant.0,
-  widths_more c.args.looks.now c.loop-i.packed c.loop-i.i c.packed-from.result c.loop-i-test.true c.loop-i.invariant.0 c.packed-from.ensures c.loop-i.invariant.1,
+  length-set c.loop-i.packed c.loop-i.i c.packed_from.result ∙ c.loop-i.invariant.0,
+  widths_more c.args.looks.now c.loop-i.packed c.loop-i.i c.packed_from.result c.loop-i-test.true c.loop-i.invariant.0 c.packed_from.ensures c.loop-i.invariant.1,
 )
 
 pub returns : goal.returns

@@ -7,9 +7,9 @@ pub returns : goal.returns
 returns g c =
     elim c.if-come-gone.branch [
       | then-come-gone w ↦
-          replaced_growing c.args.xs.now c.args.blank c.args.at c.args.gone c.args.behind c.args.new.now c.if-come-gone.xs c.copy-from-slice.new.self
-          w.if-come-gone.true c.requires (w.xs-is ∙ w.move-up.ensures) c.copy-from-slice.ensures.after
+          replaced_growing c.args.xs.now c.args.blank c.args.at c.args.gone c.args.behind c.args.new.now c.if-come-gone.xs c.copy_from_slice.new.self
+          w.if-come-gone.true c.requires (w.xs-is ∙ w.move_up.ensures) c.copy_from_slice.ensures.after
       | else-come-gone w ↦
-          replaced_shrinking c.args.xs.now c.args.blank c.args.at c.args.gone c.args.behind c.args.new.now c.if-come-gone.xs c.copy-from-slice.new.self
-          w.if-come-gone.false c.requires (w.xs-is ∙ w.move-down.ensures) c.copy-from-slice.ensures.after
+          replaced_shrinking c.args.xs.now c.args.blank c.args.at c.args.gone c.args.behind c.args.new.now c.if-come-gone.xs c.copy_from_slice.new.self
+          w.if-come-gone.false c.requires (w.xs-is ∙ w.move_down.ensures) c.copy_from_slice.ensures.after
     ]

@@ -5,4 +5,4 @@ use Rattle.text.proofs.call.read_cut.Goals as goal
 
 pub returns : goal.returns
 unfolding call_bytes
-returns c = gives_made _ _ c.begun.result (rw (← c.in-ok-last-field.ensures) refl) c.begun.ensures
+returns c = gives_made _ _ c.begun.result (rw (← c.in_ok-last_field.ensures) refl) c.begun.ensures

@@ -4,4 +4,4 @@ use Rattle.text.proofs.call.read_show.Goals as goal
 
 pub returns : goal.returns
 returns c =
-    gives_made _ _ c.show.result (rw (← c.in-ok-page.ensures, ← c.in-ok-row.ensures, ← c.in-ok-count.ensures) refl) c.show.ensures
+    gives_made _ _ c.show.result (rw (← c.in_ok-page.ensures, ← c.in_ok-row.ensures, ← c.in_ok-count.ensures) refl) c.show.ensures

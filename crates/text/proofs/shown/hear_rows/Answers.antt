@@ -10,12 +10,12 @@ none_from : {A : Type 0} (o : Option A) → is_some o ≡ false → o ≡ None
 none_from None e = refl
 none_from (Some x) e = absurd (both_ways true e refl)
 
-pub returns-then-not-rows-fit : goal.returns-then-not-rows-fit
-returns-then-not-rows-fit c =
+pub returns-then-not-rows_fit : goal.returns-then-not-rows_fit
+returns-then-not-rows_fit c =
     let cut = first_rest c.args.bytes.now 0 (omega (arith, ltb-false)) in
-    record { value = sym (ap rows_of cut ∙ ap (option_map rows) (none_from _ (sym c.if-not-rows-fit.ensures))); whole = tt }
+    record { value = sym (ap rows_of cut ∙ ap (option_map rows) (none_from _ (sym c.if-not-rows_fit.ensures))); whole = tt }
 
 pub returns : goal.returns
 returns c =
     let cut = first_rest c.args.bytes.now 0 (omega (arith, ltb-false)) in
-    record { value = sym (ap rows_of cut); whole = sym c.if-not-rows-fit.ensures }
+    record { value = sym (ap rows_of cut); whole = sym c.if-not-rows_fit.ensures }

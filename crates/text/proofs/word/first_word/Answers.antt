@@ -4,17 +4,17 @@ use Rattle.text.specs.Words.{no_space, words, behind_word}
 use Rattle.text.proofs.Pieces.{take_word, words_behind_word}
 use Rattle.text.proofs.word.first_word.Goals as goal
 
-pub split-at-requires : goal.split-at-requires
-split-at-requires c = omega (arith, prefix_len-le-length no_space c.args.text.now)
+pub split_at-requires : goal.split_at-requires
+split_at-requires c = omega (arith, prefix_len-le-length no_space c.args.text.now)
 
 pub returns : goal.returns
 unfolding behind_word
 returns c =
-    let n = c.word-len.ensures in
+    let n = c.word_len.ensures in
     let t = c.args.text.now in
-    let back = c.split-at.ensures.back ∙ ap (λ k. drop k t) n in
+    let back = c.split_at.ensures.back ∙ ap (λ k. drop k t) n in
     record {
-      front = c.split-at.ensures.front ∙ (ap (λ k. take k t) n ∙ take_word t);
+      front = c.split_at.ensures.front ∙ (ap (λ k. take k t) n ∙ take_word t);
       back = back;
       words = ap words back ∙ words_behind_word t;
     }

@@ -21,7 +21,7 @@ returns-in-Refused c =
     record {
       value = ap length (sym form);
       after =
-          refused_over c.args.out.now c.number.result c.place.result c.write-four.new.out c.requires c.write-four.ensures
+          refused_over c.args.out.now c.number.result c.place.result c.write_four.new.out c.requires c.write_four.ensures
           ∙ ap (λ bs. over bs c.args.out.now) (sym form);
     }
 
@@ -32,8 +32,8 @@ returns-in-Numbers c =
     record {
       value = ap length (sym form);
       after =
-          numbers_over c.args.out.now c.in-Numbers.a c.in-Numbers.b _ c.write-four-in-Numbers-2.new.out c.requires
-          (letter_over c.args.out.now 3 c.in-Numbers.a c.write-four-in-Numbers.new.out (omega (arith, c.requires)) c.write-four-in-Numbers.ensures)
-          c.write-four-in-Numbers-2.ensures
+          numbers_over c.args.out.now c.in-Numbers.a c.in-Numbers.b _ c.write_four-in-Numbers-2.new.out c.requires
+          (letter_over c.args.out.now 3 c.in-Numbers.a c.write_four-in-Numbers.new.out (omega (arith, c.requires)) c.write_four-in-Numbers.ensures)
+          c.write_four-in-Numbers-2.ensures
           ∙ ap (λ bs. over bs c.args.out.now) (sym form);
     }

@@ -9,86 +9,86 @@ use Rattle.wire.proofs.Firsts.{front}
 use Rattle.wire.proofs.Heads.{fixed_stops, fixed_reads, tokens_stops, tokens_reads, unknown_call}
 use Rattle.wire.proofs.call.read_call.Goals as goal
 
-pub returns-in-default : goal.returns-in-default
+pub returns-in_default : goal.returns-in_default
 unfolding reading
-returns-in-default c = record { value = ap reading (nil_from_length c.args.bytes.now (omega (arith, ltb-true))); part = tt }
+returns-in_default c = record { value = ap reading (nil_from_length c.args.bytes.now (omega (arith, ltb-true))); part = tt }
 
-pub returns-in-err-k : goal.returns-in-err-k
+pub returns-in_err-k : goal.returns-in_err-k
 unfolding reading_by
-returns-in-err-k c =
-    let p = err_from_is_err_and c.from-residual.result c.from-residual.ensures.1 in
-    rw (p.1, p.2) (tokens_stops c.args.bytes.now 0 _ (front c.args.bytes.now 0 (omega (arith, ltb-false)) c.in-0.is) put _ refl c.in-err-k.ensures)
+returns-in_err-k c =
+    let p = err_from_is_err_and c.from_residual.result c.from_residual.ensures.1 in
+    rw (p.1, p.2) (tokens_stops c.args.bytes.now 0 _ (front c.args.bytes.now 0 (omega (arith, ltb-false)) c.in-0.is) put _ refl c.in_err-k.ensures)
 
-pub returns-in-ok-k : goal.returns-in-ok-k
+pub returns-in_ok-k : goal.returns-in_ok-k
 unfolding reading_by
-returns-in-ok-k c =
-    tokens_reads c.args.bytes.now 0 _ (front c.args.bytes.now 0 (omega (arith, ltb-false)) c.in-0.is) put c.in-ok-k.k c.in-ok-k.tokens (Put c.in-ok-k.k c.in-ok-k.tokens) refl c.in-ok-k.ensures refl (λ w. w)
+returns-in_ok-k c =
+    tokens_reads c.args.bytes.now 0 _ (front c.args.bytes.now 0 (omega (arith, ltb-false)) c.in-0.is) put c.in_ok-k.k c.in_ok-k.tokens (Put c.in_ok-k.k c.in_ok-k.tokens) refl c.in_ok-k.ensures refl (λ w. w)
 
-pub returns-in-err-k-2 : goal.returns-in-err-k-2
+pub returns-in_err-k-2 : goal.returns-in_err-k-2
 unfolding reading_by
-returns-in-err-k-2 c =
-    let p = err_from_is_err_and c.from-residual-in-err-k-2.result c.from-residual-in-err-k-2.ensures.1 in
-    rw (p.1, p.2) (tokens_stops c.args.bytes.now 2 _ (front c.args.bytes.now 2 (omega (arith, ltb-false)) c.in-2.is) define _ refl c.in-err-k-2.ensures)
+returns-in_err-k-2 c =
+    let p = err_from_is_err_and c.from_residual-in_err-k-2.result c.from_residual-in_err-k-2.ensures.1 in
+    rw (p.1, p.2) (tokens_stops c.args.bytes.now 2 _ (front c.args.bytes.now 2 (omega (arith, ltb-false)) c.in-2.is) define _ refl c.in_err-k-2.ensures)
 
-pub returns-in-ok-k-2 : goal.returns-in-ok-k-2
+pub returns-in_ok-k-2 : goal.returns-in_ok-k-2
 unfolding reading_by
-returns-in-ok-k-2 c =
-    tokens_reads c.args.bytes.now 2 _ (front c.args.bytes.now 2 (omega (arith, ltb-false)) c.in-2.is) define c.in-ok-k-2.k c.in-ok-k-2.tokens (Define c.in-ok-k-2.k c.in-ok-k-2.tokens) refl c.in-ok-k-2.ensures refl (λ w. w)
+returns-in_ok-k-2 c =
+    tokens_reads c.args.bytes.now 2 _ (front c.args.bytes.now 2 (omega (arith, ltb-false)) c.in-2.is) define c.in_ok-k-2.k c.in_ok-k-2.tokens (Define c.in_ok-k-2.k c.in_ok-k-2.tokens) refl c.in_ok-k-2.ensures refl (λ w. w)
 
-pub returns-in-err-k-3 : goal.returns-in-err-k-3
+pub returns-in_err-k-3 : goal.returns-in_err-k-3
 unfolding reading_by
-returns-in-err-k-3 c =
-    let p = err_from_is_err_and c.from-residual-in-err-k-3.result c.from-residual-in-err-k-3.ensures.1 in
-    rw (p.1, p.2) (tokens_stops c.args.bytes.now 6 _ (front c.args.bytes.now 6 (omega (arith, ltb-false)) c.in-6.is) put_in _ refl c.in-err-k-3.ensures)
+returns-in_err-k-3 c =
+    let p = err_from_is_err_and c.from_residual-in_err-k-3.result c.from_residual-in_err-k-3.ensures.1 in
+    rw (p.1, p.2) (tokens_stops c.args.bytes.now 6 _ (front c.args.bytes.now 6 (omega (arith, ltb-false)) c.in-6.is) put_in _ refl c.in_err-k-3.ensures)
 
-pub returns-in-ok-k-3 : goal.returns-in-ok-k-3
+pub returns-in_ok-k-3 : goal.returns-in_ok-k-3
 unfolding reading_by
-returns-in-ok-k-3 c =
-    tokens_reads c.args.bytes.now 6 _ (front c.args.bytes.now 6 (omega (arith, ltb-false)) c.in-6.is) put_in c.in-ok-k-3.k c.in-ok-k-3.tokens (PutIn c.in-ok-k-3.k c.in-ok-k-3.tokens) refl c.in-ok-k-3.ensures refl (λ w. w)
+returns-in_ok-k-3 c =
+    tokens_reads c.args.bytes.now 6 _ (front c.args.bytes.now 6 (omega (arith, ltb-false)) c.in-6.is) put_in c.in_ok-k-3.k c.in_ok-k-3.tokens (PutIn c.in_ok-k-3.k c.in_ok-k-3.tokens) refl c.in_ok-k-3.ensures refl (λ w. w)
 
-pub returns-in-err-exactly : goal.returns-in-err-exactly
+pub returns-in_err-exactly : goal.returns-in_err-exactly
 unfolding reading_by
-returns-in-err-exactly c =
-    let p = err_from_is_err_and c.from-residual-in-err-exactly.result c.from-residual-in-err-exactly.ensures.1 in
-    rw (p.1, p.2) (fixed_stops c.args.bytes.now 1 _ (front c.args.bytes.now 1 (omega (arith, ltb-false)) c.in-1.is) 2 _ _ refl c.in-err-exactly.ensures)
+returns-in_err-exactly c =
+    let p = err_from_is_err_and c.from_residual-in_err-exactly.result c.from_residual-in_err-exactly.ensures.1 in
+    rw (p.1, p.2) (fixed_stops c.args.bytes.now 1 _ (front c.args.bytes.now 1 (omega (arith, ltb-false)) c.in-1.is) 2 _ _ refl c.in_err-exactly.ensures)
 
-pub returns-in-ok-exactly : goal.returns-in-ok-exactly
+pub returns-in_ok-exactly : goal.returns-in_ok-exactly
 unfolding reading_by
-returns-in-ok-exactly c =
-    fixed_reads c.args.bytes.now 1 _ (front c.args.bytes.now 1 (omega (arith, ltb-false)) c.in-1.is) 2 _ _ (Cut c.two-at.result) refl c.in-ok-exactly.ensures (ap cut (sym c.two-at.ensures)) tt
+returns-in_ok-exactly c =
+    fixed_reads c.args.bytes.now 1 _ (front c.args.bytes.now 1 (omega (arith, ltb-false)) c.in-1.is) 2 _ _ (Cut c.two_at.result) refl c.in_ok-exactly.ensures (ap cut (sym c.two_at.ensures)) tt
 
-pub returns-in-err-exactly-2 : goal.returns-in-err-exactly-2
+pub returns-in_err-exactly-2 : goal.returns-in_err-exactly-2
 unfolding reading_by
-returns-in-err-exactly-2 c =
-    let p = err_from_is_err_and c.from-residual-in-err-exactly-2.result c.from-residual-in-err-exactly-2.ensures.1 in
-    rw (p.1, p.2) (fixed_stops c.args.bytes.now 3 _ (front c.args.bytes.now 3 (omega (arith, ltb-false)) c.in-3.is) 8 _ _ refl c.in-err-exactly-2.ensures)
+returns-in_err-exactly-2 c =
+    let p = err_from_is_err_and c.from_residual-in_err-exactly-2.result c.from_residual-in_err-exactly-2.ensures.1 in
+    rw (p.1, p.2) (fixed_stops c.args.bytes.now 3 _ (front c.args.bytes.now 3 (omega (arith, ltb-false)) c.in-3.is) 8 _ _ refl c.in_err-exactly-2.ensures)
 
-pub returns-in-ok-exactly-2 : goal.returns-in-ok-exactly-2
+pub returns-in_ok-exactly-2 : goal.returns-in_ok-exactly-2
 unfolding reading_by
-returns-in-ok-exactly-2 c =
-    fixed_reads c.args.bytes.now 3 _ (front c.args.bytes.now 3 (omega (arith, ltb-false)) c.in-3.is) 8 _ _ (Show c.four_at.result c.two-at-in-3.result c.two-at-in-3-2.result) refl c.in-ok-exactly-2.ensures (cc) tt
+returns-in_ok-exactly-2 c =
+    fixed_reads c.args.bytes.now 3 _ (front c.args.bytes.now 3 (omega (arith, ltb-false)) c.in-3.is) 8 _ _ (Show c.four_at.result c.two_at-in-3.result c.two_at-in-3-2.result) refl c.in_ok-exactly-2.ensures (cc) tt
 
-pub returns-in-err-exactly-3 : goal.returns-in-err-exactly-3
+pub returns-in_err-exactly-3 : goal.returns-in_err-exactly-3
 unfolding reading_by
-returns-in-err-exactly-3 c =
-    let p = err_from_is_err_and c.from-residual-in-err-exactly-3.result c.from-residual-in-err-exactly-3.ensures.1 in
-    rw (p.1, p.2) (fixed_stops c.args.bytes.now 4 _ (front c.args.bytes.now 4 (omega (arith, ltb-false)) c.in-4.is) 2 _ _ refl c.in-err-exactly-3.ensures)
+returns-in_err-exactly-3 c =
+    let p = err_from_is_err_and c.from_residual-in_err-exactly-3.result c.from_residual-in_err-exactly-3.ensures.1 in
+    rw (p.1, p.2) (fixed_stops c.args.bytes.now 4 _ (front c.args.bytes.now 4 (omega (arith, ltb-false)) c.in-4.is) 2 _ _ refl c.in_err-exactly-3.ensures)
 
-pub returns-in-ok-exactly-3 : goal.returns-in-ok-exactly-3
+pub returns-in_ok-exactly-3 : goal.returns-in_ok-exactly-3
 unfolding reading_by
-returns-in-ok-exactly-3 c =
-    fixed_reads c.args.bytes.now 4 _ (front c.args.bytes.now 4 (omega (arith, ltb-false)) c.in-4.is) 2 _ _ (WhereIs c.two-at-in-4.result) refl c.in-ok-exactly-3.ensures (ap where_is (sym c.two-at-in-4.ensures)) tt
+returns-in_ok-exactly-3 c =
+    fixed_reads c.args.bytes.now 4 _ (front c.args.bytes.now 4 (omega (arith, ltb-false)) c.in-4.is) 2 _ _ (WhereIs c.two_at-in-4.result) refl c.in_ok-exactly-3.ensures (ap where_is (sym c.two_at-in-4.ensures)) tt
 
-pub returns-in-err-exactly-4 : goal.returns-in-err-exactly-4
+pub returns-in_err-exactly-4 : goal.returns-in_err-exactly-4
 unfolding reading_by
-returns-in-err-exactly-4 c =
-    let p = err_from_is_err_and c.from-residual-in-err-exactly-4.result c.from-residual-in-err-exactly-4.ensures.1 in
-    rw (p.1, p.2) (fixed_stops c.args.bytes.now 5 _ (front c.args.bytes.now 5 (omega (arith, ltb-false)) c.in-5.is) 0 _ _ refl c.in-err-exactly-4.ensures)
+returns-in_err-exactly-4 c =
+    let p = err_from_is_err_and c.from_residual-in_err-exactly-4.result c.from_residual-in_err-exactly-4.ensures.1 in
+    rw (p.1, p.2) (fixed_stops c.args.bytes.now 5 _ (front c.args.bytes.now 5 (omega (arith, ltb-false)) c.in-5.is) 0 _ _ refl c.in_err-exactly-4.ensures)
 
-pub returns-in-ok-exactly-4 : goal.returns-in-ok-exactly-4
+pub returns-in_ok-exactly-4 : goal.returns-in_ok-exactly-4
 unfolding reading_by
-returns-in-ok-exactly-4 c =
-    fixed_reads c.args.bytes.now 5 _ (front c.args.bytes.now 5 (omega (arith, ltb-false)) c.in-5.is) 0 _ _ HowMany refl c.in-ok-exactly-4.ensures refl tt
+returns-in_ok-exactly-4 c =
+    fixed_reads c.args.bytes.now 5 _ (front c.args.bytes.now 5 (omega (arith, ltb-false)) c.in-5.is) 0 _ _ HowMany refl c.in_ok-exactly-4.ensures refl tt
 
-pub returns-in-default-kind : goal.returns-in-default-kind
-returns-in-default-kind c = unknown_call c.args.bytes.now (get_or c.args.bytes.now 0 0) _ (front c.args.bytes.now (get_or c.args.bytes.now 0 0) (omega (arith, ltb-false)) refl) (omega arith)
+pub returns-in_default-kind : goal.returns-in_default-kind
+returns-in_default-kind c = unknown_call c.args.bytes.now (get_or c.args.bytes.now 0 0) _ (front c.args.bytes.now (get_or c.args.bytes.now 0 0) (omega (arith, ltb-false)) refl) (omega arith)

@@ -5,8 +5,8 @@ use Rattle.words.proofs.split.letter_width.Goals as goal
 pub returns-then-k-lt95 : goal.returns-then-k-lt95
 returns-then-k-lt95 c =
     record {
-      value = get_or_default c.args.widths.now c.saturating-sub-k.result 0 1 (omega arith) ∙ ap (λ k. get_or c.args.widths.now k 1) c.saturating-sub-k.ensures;
-      small = omega (arith, c.fits-widths c.saturating-sub-k.result);
+      value = get_or_default c.args.widths.now c.saturating_sub-k.result 0 1 (omega arith) ∙ ap (λ k. get_or c.args.widths.now k 1) c.saturating_sub-k.ensures;
+      small = omega (arith, c.fits-widths c.saturating_sub-k.result);
     }
 
 pub returns-else-k-lt95 : goal.returns-else-k-lt95

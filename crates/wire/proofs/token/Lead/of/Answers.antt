@@ -35,5 +35,5 @@ pub returns-in-7 : goal.returns-in-7
 unfolding lead_of
 returns-in-7 c = ap lead_of (sym c.in-7.is)
 
-pub returns-in-default : goal.returns-in-default
-returns-in-default c = sym (lead_past c.args.kind (omega arith))
+pub returns-in_default : goal.returns-in_default
+returns-in_default c = sym (lead_past c.args.kind (omega arith))
