@@ -17,15 +17,15 @@ returns-in-1 c = first_from_form c.args.bytes.now Space _ (front c.args.bytes.no
 pub returns-in-6 : goal.returns-in-6
 returns-in-6 c = first_from_form c.args.bytes.now Given _ (front c.args.bytes.now 6 (omega (arith, ltb-false)) c.in-6.is) tt
 
-pub returns-in_err-inside : goal.returns-in_err-inside
-returns-in_err-inside c =
+pub returns-in_err-inside-in-4 : goal.returns-in_err-inside-in-4
+returns-in_err-inside-in-4 c =
     let form = front c.args.bytes.now 4 (omega (arith, ltb-false)) c.in-4.is in
-    subst (BeginsWith c.args.bytes.now) (sym c.from_residual.ensures) (note_unclosed c.args.bytes.now _ form c.in_err-inside.ensures)
+    subst (BeginsWith c.args.bytes.now) (sym c.from_residual.ensures) (note_unclosed c.args.bytes.now _ form c.in_err-inside-in-4.ensures)
 
-pub returns-in_ok-inside : goal.returns-in_ok-inside
-returns-in_ok-inside c =
+pub returns-in_ok-inside-in-4 : goal.returns-in_ok-inside-in-4
+returns-in_ok-inside-in-4 c =
     let form = front c.args.bytes.now 4 (omega (arith, ltb-false)) c.in-4.is in
-    note_first c.args.bytes.now _ c.in_ok-inside.inside c.in_ok-inside.rest form c.in_ok-inside.ensures
+    note_first c.args.bytes.now _ c.in_ok-inside-in-4.inside c.in_ok-inside-in-4.rest form c.in_ok-inside-in-4.ensures
 
 pub returns-in_default-kind : goal.returns-in_default-kind
 returns-in_default-kind c =

@@ -19,17 +19,17 @@ returns-in-2 c = first_from_form _ (Mark (get_or c.args.bytes.now 0 0)) _ (kind_
 pub returns-in-3 : goal.returns-in-3
 returns-in-3 c = first_from_form _ (PageOf (get_or c.args.bytes.now 0 0)) _ (kind_and_number c.args.kind 3 c.args.bytes.now c.in-3.is (omega (arith, ltb-false))) tt
 
-pub returns-in_err-inside : goal.returns-in_err-inside
-returns-in_err-inside c =
+pub returns-in_err-inside-in-5 : goal.returns-in_err-inside-in-5
+returns-in_err-inside-in-5 c =
     let form = kind_and_number c.args.kind 5 c.args.bytes.now c.in-5.is (omega (arith, ltb-false)) in
     subst (BeginsWith (c.args.kind ∷ c.args.bytes.now)) (sym c.from_residual.ensures)
-    (command_unclosed (c.args.kind ∷ c.args.bytes.now) (get_or c.args.bytes.now 0 0) _ form c.in_err-inside.ensures)
+    (command_unclosed (c.args.kind ∷ c.args.bytes.now) (get_or c.args.bytes.now 0 0) _ form c.in_err-inside-in-5.ensures)
 
-pub returns-in_ok-inside : goal.returns-in_ok-inside
-returns-in_ok-inside c =
+pub returns-in_ok-inside-in-5 : goal.returns-in_ok-inside-in-5
+returns-in_ok-inside-in-5 c =
     let form = kind_and_number c.args.kind 5 c.args.bytes.now c.in-5.is (omega (arith, ltb-false)) in
-    command_first (c.args.kind ∷ c.args.bytes.now) (get_or c.args.bytes.now 0 0) _ c.in_ok-inside.inside c.in_ok-inside.rest form
-    c.in_ok-inside.ensures
+    command_first (c.args.kind ∷ c.args.bytes.now) (get_or c.args.bytes.now 0 0) _ c.in_ok-inside-in-5.inside c.in_ok-inside-in-5.rest form
+    c.in_ok-inside-in-5.ensures
 
 pub returns-in_default-kind : goal.returns-in_default-kind
 returns-in_default-kind c = none_first _ c.args.kind c.args.bytes.now refl (omega (arith, c.requires.0, c.requires.1, c.requires.2))
