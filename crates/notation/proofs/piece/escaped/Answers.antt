@@ -16,27 +16,27 @@ returns-in-92 c =
     let cut = first_rest c.args.text.now 0 (omega (arith, ltb-false)) in
     sym (ap escaped cut ∙ escaped_letter _ _ c.in-92.is)
 
-pub returns-in_err-n : goal.returns-in_err-n
-returns-in_err-n c =
+pub returns-in_err-n-in-109 : goal.returns-in_err-n-in-109
+returns-in_err-n-in-109 c =
     let cut = first_rest c.args.text.now 0 (omega (arith, ltb-false)) in
     let p = err_from_is_err_and c.from_residual.result c.from_residual.ensures.1 in
-    sym (ap escaped cut ∙ (escaped_mark _ _ c.in-109.is ∙ rw (← c.in_err-n.ensures, p.1, p.2) refl))
+    sym (ap escaped cut ∙ (escaped_mark _ _ c.in-109.is ∙ rw (← c.in_err-n-in-109.ensures, p.1, p.2) refl))
 
-pub returns-in_ok-n : goal.returns-in_ok-n
-returns-in_ok-n c =
+pub returns-in_ok-n-in-109 : goal.returns-in_ok-n-in-109
+returns-in_ok-n-in-109 c =
     let cut = first_rest c.args.text.now 0 (omega (arith, ltb-false)) in
-    sym (ap escaped cut ∙ (escaped_mark _ _ c.in-109.is ∙ rw (← c.in_ok-n.ensures) refl))
+    sym (ap escaped cut ∙ (escaped_mark _ _ c.in-109.is ∙ rw (← c.in_ok-n-in-109.ensures) refl))
 
-pub returns-in_err-n-2 : goal.returns-in_err-n-2
-returns-in_err-n-2 c =
+pub returns-in_err-n-in-112 : goal.returns-in_err-n-in-112
+returns-in_err-n-in-112 c =
     let cut = first_rest c.args.text.now 0 (omega (arith, ltb-false)) in
-    let p = err_from_is_err_and c.from_residual-in_err-n-2.result c.from_residual-in_err-n-2.ensures.1 in
-    sym (ap escaped cut ∙ (escaped_page_of _ _ c.in-112.is ∙ rw (← c.in_err-n-2.ensures, p.1, p.2) refl))
+    let p = err_from_is_err_and c.from_residual-in_err-n-in-112.result c.from_residual-in_err-n-in-112.ensures.1 in
+    sym (ap escaped cut ∙ (escaped_page_of _ _ c.in-112.is ∙ rw (← c.in_err-n-in-112.ensures, p.1, p.2) refl))
 
-pub returns-in_ok-n-2 : goal.returns-in_ok-n-2
-returns-in_ok-n-2 c =
+pub returns-in_ok-n-in-112 : goal.returns-in_ok-n-in-112
+returns-in_ok-n-in-112 c =
     let cut = first_rest c.args.text.now 0 (omega (arith, ltb-false)) in
-    sym (ap escaped cut ∙ (escaped_page_of _ _ c.in-112.is ∙ rw (← c.in_ok-n-2.ensures) refl))
+    sym (ap escaped cut ∙ (escaped_page_of _ _ c.in-112.is ∙ rw (← c.in_ok-n-in-112.ensures) refl))
 
 pub returns-in_default-first : goal.returns-in_default-first
 returns-in_default-first c =

@@ -8,7 +8,7 @@ use Rattle.notation.specs.Noted.{noted, noted_from}
 use Rattle.notation.proofs.Sames.{same_as_told}
 use Rattle.notation.proofs.SoFar.{SoFar, so_far_none, so_far_fault, shorter, so_far_deep, so_far_more, so_far_open, so_far_all}
 use Rattle.notation.proofs.reading.read_tokens.Goals as goal
-use Rattle.notation.proofs.reading.read_tokens.Goals.{Else-eq, In-len1-up, In-default}
+use Rattle.notation.proofs.reading.read_tokens.Goals.{Else-eq, In-len1-up, In_default}
 
 pub returns-then-eq : goal.returns-then-eq
 unfolding noted
@@ -34,7 +34,7 @@ so_far : (c : In-len1-up) →
 so_far c = subst (λ left. SoFar c.args.text.now (vec_items c.args.out.now) c.loop-rest.depth left (vec_items c.loop-rest.out)) (first c) c.loop-rest.invariant
 
 -- where none is left
-ended : (c : In-default) → SoFar c.args.text.now (vec_items c.args.out.now) c.loop-rest.depth [] (vec_items c.loop-rest.out)
+ended : (c : In_default) → SoFar c.args.text.now (vec_items c.args.out.now) c.loop-rest.depth [] (vec_items c.loop-rest.out)
 ended c =
     subst (λ left. SoFar c.args.text.now (vec_items c.args.out.now) c.loop-rest.depth left (vec_items c.loop-rest.out))
     (nil_from_length c.loop-rest.rest.now (omega (arith, ltb-true))) c.loop-rest.invariant
@@ -71,9 +71,9 @@ loop-rest-preserved c =
 
 pub returns-then-depth-gt0 : goal.returns-then-depth-gt0
 returns-then-depth-gt0 c =
-    inr (not_none (goal.at.returns-then-depth-gt0 c).Else-eq ∙ so_far_open _ _ _ _ (ended (goal.at.returns-then-depth-gt0 c).In-default) c.if-depth-gt0.true)
+    inr (not_none (goal.at.returns-then-depth-gt0 c).Else-eq ∙ so_far_open _ _ _ _ (ended (goal.at.returns-then-depth-gt0 c).In_default) c.if-depth-gt0.true)
 
 pub returns : goal.returns
 returns c =
-    let all = so_far_all _ _ _ _ (ended (goal.at.returns c).In-default) (omega (arith, c.if-depth-gt0.false)) in
+    let all = so_far_all _ _ _ _ (ended (goal.at.returns c).In_default) (omega (arith, c.if-depth-gt0.false)) in
     (all.0, not_none (goal.at.returns c).Else-eq ∙ all.1, all.2)

@@ -7,12 +7,12 @@ use Rattle.store.proofs.changes.make.Goals as goal
 pub of-bytes-requires : goal.of-bytes-requires
 of-bytes-requires c =
     let (k, b, s) = known c.args.tokens.now c.args.rest.now c.args.kept c.args.change c.requires (omega arith) in
-    (omega arith, omega arith)
+    record { gone_in_bounds = omega arith; rest_bound = omega arith }
 
 pub of-size-requires : goal.of-size-requires
 of-size-requires c =
     let (k, b, s) = known c.args.tokens.now c.args.rest.now c.args.kept c.args.change c.requires (omega arith) in
-    (omega arith, omega arith)
+    record { gone_in_bounds = omega arith; rest_bound = omega arith }
 
 pub overflow_add-after : goal.overflow_add-after
 overflow_add-after c =

@@ -7,7 +7,7 @@ sum_of-from-requires c =
     let t = there c.args.tokens.now c.args.rest.now c.in-Some.kept c.args.k c.in-Some.ensures c.if-at-kept.false in
     let a = t.in_table in
     let b = t.few in
-    (omega arith, omega arith)
+    record { n_in_bounds = omega arith; rest_bound = omega arith }
 
 pub bounds-rest-at : goal.bounds-rest-at
 bounds-rest-at c =
