@@ -13,7 +13,7 @@ use Rattle.notation.proofs.reading.read_tokens.Goals.{Else-eq, In-len1-up, In_de
 pub returns-then-eq : goal.returns-then-eq
 unfolding noted
 returns-then-eq c =
-    let none = same_as_told c.args.text.now (92 ∷ codes "none") true c.if-eq.ensures in
+    let none = same_as_told c.args.text.now (92 ∷ codes "none") true _ c.as_slice.ensures c.if-eq.ensures in
     ([], rw none refl, sym (append-nil (vec_items c.args.out.now)))
 
 pub loop-rest-init : goal.loop-rest-init
@@ -22,7 +22,7 @@ loop-rest-init c = so_far_none c.args.text.now (vec_items c.args.out.now)
 -- what is not just \none
 not_none : (c : Else-eq) → noted c.args.text.now ≡ noted_from 0 c.args.text.now
 unfolding noted
-not_none c = rw (same_as_told c.args.text.now (92 ∷ codes "none") false c.if-eq.ensures) refl
+not_none c = rw (same_as_told c.args.text.now (92 ∷ codes "none") false _ c.as_slice.ensures c.if-eq.ensures) refl
 
 -- where a piece is read
 first : (c : In-len1-up) → c.loop-rest.rest.now ≡ get_or c.loop-rest.rest.now 0 0 ∷ between 1 (length c.loop-rest.rest.now) c.loop-rest.rest.now
