@@ -68,7 +68,7 @@ module _ (s : Sheet) (work : List ℕ) (n : ℕ) (b : Broken s (slot_words s wor
       ∙ ap (λ (vs : List Word). line_of s (drop k ws) (size_at k) ∷ set_lines (wide_by s.widths) s.width vs (best (wide_by s.widths) s.width (drop (k + size_at k) ws)).ks) (drop_more k (size_at k))
     where
       drop_more : (i j : ℕ) → drop j (drop i ws) ≡ drop (i + j) ws
-      drop_more i j = Rattle.std.proofs.lemmas.List.drop_drop j i ws
+      drop_more i j = Rattle.std.proofs.lemmas.List.drop-drop j i ws
 
   pub lines_none : (k : ℕ) → n ≤ k → lines_by s (drop k ws) ≡ []
   unfolding set_lines

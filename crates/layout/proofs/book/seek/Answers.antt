@@ -12,7 +12,7 @@ use Rattle.layout.proofs.book.seek.Goals as goal
 pub loop-k-init : goal.loop-k-init
 loop-k-init c = (
   same_none c.args.book.now c.args.rest.now,
-  subst (SoFar c.args.tokens.now c.args.rest.now c.args.wanted 0 0) (sym c.nothing_found.ensures) (nothing_so_far c.args.tokens.now c.args.rest.now c.args.wanted),
+  subst (SoFar c.args.tokens.now c.args.rest.now c.args.wanted 0 0) (sym c.nothing-found.ensures) (nothing_so_far c.args.tokens.now c.args.rest.now c.args.wanted),
 )
 
 pub before-from-requires : goal.before-from-requires

@@ -4,10 +4,10 @@ use Rattle.text.proofs.call.after_word.Goals as goal
 
 pub returns-then-eq : goal.returns-then-eq
 returns-then-eq c =
-    let same = same_as_told c.in-Some.word.now c.args.due.now true c.if-eq.ensures in
+    let same = same_as_told c.in-Some.word.now c.args.due.now true _ refl c.if-eq.ensures in
     rw (c.in-Some.ensures.words, same) refl
 
 pub returns-else-eq : goal.returns-else-eq
 returns-else-eq c =
-    let other = same_as_told c.in-Some.word.now c.args.due.now false c.if-eq.ensures in
+    let other = same_as_told c.in-Some.word.now c.args.due.now false _ refl c.if-eq.ensures in
     rw (c.in-Some.ensures.words, other) refl

@@ -12,4 +12,4 @@ seen_low c = cond_both (leb 33 c && leb c 126) c 63 (λ n. n < 128) (λ e. omega
 pub returns-clause-writes : goal.returns-clause-writes
 returns-clause-writes g c plain ok =
     let byte : encode c.seen-what.result ≡ seen c.args.self.now.what ∷ [] = ap encode c.seen-what.ensures ∙ encode_ascii _ (seen_low c.args.self.now.what) in
-    has_written_of_eq g.W.Write.write_str_gives _ _ _ _ (ap (λ bs. bs ++ (32 ∷ decimal c.args.self.now.at)) byte) (c.write.ensures.shows plain ok)
+    has_written_of_eq g.W.Write.write_str_gives _ _ _ _ (ap (λ bs. bs ++ (32 ∷ decimal c.args.self.now.at)) byte) (c.write.ensures.writes plain ok)

@@ -13,12 +13,12 @@ loop-letter-preserved g c =
     let took = g.W.Write.write_str_gives in
     left_more took _ _ _ _ (32 ∷ letter_text (placed c.in-Some-next_letter.letter)) (spaced (letters_of c.in-Some-next_letter.behind.now)) _
     (subst (λ ps. Left took c.write.new.self c.loop-letter.f (spaced (letters_of c.in-Some.rest.now)) (spaced ps)) c.in-Some-next_letter.ensures c.loop-letter.invariant)
-    c.write-in-Some-next_letter.ensures.shows (ap is_ok c.in_ok-write-2.was)
+    c.write-in-Some-next_letter.ensures.writes (ap is_ok c.in_ok-write-2.was)
 
 pub returns-clause-writes : goal.returns-clause-writes
 unfolding spaced
 returns-clause-writes g c plain ok =
     let took = g.W.Write.write_str_gives in
-    let first = c.write.ensures.shows plain (ap is_ok c.in_ok-write.was) in
+    let first = c.write.ensures.writes plain (ap is_ok c.in_ok-write.was) in
     let others = left_all took _ _ _ _ c.loop-letter.invariant (ap spaced c.in_default-next_letter.ensures) first.plain in
     has_written_of_eq took _ _ _ _ (sym (ap row_text c.in-Some.ensures)) (has_written_append took _ _ _ _ _ first others)

@@ -27,7 +27,7 @@ loop-row-preserved g c rs e =
       next.0,
       next.2,
       left_more took _ _ _ _ line (lines_text next.0) _ (subst (λ left. Left took c.write.new.self c.loop-row.f (lines_text rs) (lines_text left)) next.1 so.2)
-          c.write-in-Some.ensures.shows (ap is_ok c.in_ok-write-2.was),
+          c.write-in-Some.ensures.writes (ap is_ok c.in_ok-write-2.was),
     )
 
 pub returns-clause-writes : goal.returns-clause-writes
@@ -37,7 +37,7 @@ returns-clause-writes g c =
     let rows = c.args.self.now in
     shows_mapped took _ _ (Ok tt) rows_text (rows_in rows.count rows.bytes.now) (λ rs e plain ok.
     let so = c.loop-row.invariant rs e in
-    let head = c.write.ensures.shows plain (ap is_ok c.in_ok-write.was) in
+    let head = c.write.ensures.writes plain (ap is_ok c.in_ok-write.was) in
     let lines = left_all took _ _ _ _ so.2 (ap lines_text (rows_over c.loop-row.rest.now so.0 so.1 c.in_default.ensures)) head.plain in
     let text = append_assoc (codes "rows ") (decimal rows.count) (lines_text rs) ∙ ap (λ n. codes "rows " ++ (decimal n ++ lines_text rs)) (sym (length_rows rows.count rows.bytes.now rs e)) in
     has_written_of_eq took _ _ _ _ text (has_written_append took _ _ _ _ _ head lines))
