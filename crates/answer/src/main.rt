@@ -1,4 +1,6 @@
 // Reads a file of calls, or standard input, and answers each line before the next is read.
+#![tactic(auto)]
+
 use session::{Asked, Limits, Looks, ROOM, call, open};
 use std::alloc::Global;
 use std::io::{BufRead, BufReader};

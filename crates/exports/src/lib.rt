@@ -1,5 +1,7 @@
 // The session for other languages: slices are lent, and one number comes back.
 // A number below 0 is a refusal: -(its number * 2^32 + its place).
+#![tactic(auto)]
+
 mod promise;
 
 ghost use Rattle.std.specs.Prelude.{◌≡◌, ℕ, ◌≤◌, List, length, pos};

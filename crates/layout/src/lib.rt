@@ -1,4 +1,6 @@
 // Lines set as rows of placed letters, and pages filled with them.
+#![tactic(auto)]
+
 mod book;
 mod line;
 mod paragraph;

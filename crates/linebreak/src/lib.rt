@@ -1,4 +1,6 @@
 // The best lines of a paragraph, over a row of slots, one for each word.
+#![tactic(auto)]
+
 ghost use Rattle.std.specs.Prelude.{◌≡◌, ◌*◌, ◌≤◌, length};
 ghost use Rattle.linebreak.specs.Slots.{Bounds, Breaks, Leaves, line_costs, cost_from, LinesFollow};
 

@@ -1,4 +1,6 @@
 // The main promise about the machine, for the stage: each statement is the contract of a function that does nothing, so that the check asks for its proof.
+#![tactic(auto)]
+
 ghost use Rattle.meaning.specs.Promise.{Right, RefusalKeeps, EnoughMemory};
 ghost use Rattle.wire.specs.Stage.{stage_tokens, stage_calls};
 ghost use Rattle.machine.specs.Setter.{setter};

@@ -1,5 +1,5 @@
 -- What is done with a text, and what is asked. Assumes nothing: these are definitions.
-use Rattle.std.specs.Prelude.{◌≡◌, ℕ, zero, suc, ◌+◌, ◌-◌, ◌*◌, ◌/◌, ◌%◌, ◌<◌, ◌≤◌, Bool, true, false, not, ◌&&◌, ◌||◌, List, [], ◌∷◌, ◌++◌, length, take, drop, ◌==◌, nat_le, nat_lt, slice_index_or, slice_set}
+use Rattle.std.specs.Prelude.{ℕ, zero, suc, ◌+◌, Bool, true, false, not, ◌&&◌, List, [], ◌∷◌, ◌++◌, length, take, drop, ◌==◌, nat_le, nat_lt, slice_index_or, slice_set}
 use Rattle.meaning.specs.Text.{pick, Token, letter, space, mark, page_of, note, command, given, Tokens, none, more, Atom, ch, gap, tag, foot, Definition, atoms}
 use Rattle.meaning.specs.Pages.{Looks, Page, Book, book}
 use Rattle.meaning.specs.Lines.{Placed, Line}

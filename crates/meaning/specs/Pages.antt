@@ -1,7 +1,7 @@
 -- Pages: lines, and their notes at the foot; and page numbers that are right. Assumes nothing: these are definitions.
-use Rattle.std.specs.Prelude.{◌≡◌, ℕ, zero, suc, ◌+◌, ◌-◌, ◌*◌, ◌/◌, ◌%◌, ◌<◌, ◌≤◌, Bool, true, false, not, ◌&&◌, ◌||◌, List, [], ◌∷◌, ◌++◌, length, ◌==◌, nat_le}
-use Rattle.meaning.specs.Text.{pick, Token, Tokens, none, more, Atom, ch, gap, Definition, atoms}
-use Rattle.meaning.specs.Lines.{Placed, Line, paragraph}
+use Rattle.std.specs.Prelude.{ℕ, zero, suc, ◌+◌, Bool, true, false, ◌&&◌, ◌||◌, List, [], ◌∷◌, ◌++◌, length, ◌==◌, nat_le}
+use Rattle.meaning.specs.Text.{pick, Tokens, Atom, ch, gap, Definition, atoms}
+use Rattle.meaning.specs.Lines.{Line, paragraph}
 
 -- how a book looks: letters, the width, and how many rows a page has
 pub record Looks : Type 0 where

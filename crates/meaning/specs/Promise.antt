@@ -1,9 +1,9 @@
 -- What is promised. Each is a statement, a type whose proof is owed. Assumes nothing.
-use Rattle.std.specs.Prelude.{◌≡◌, ℕ, zero, suc, ◌+◌, ◌-◌, ◌*◌, ◌/◌, ◌<◌, ◌≤◌, Bool, true, false, not, ◌&&◌, ◌||◌, ◌≢◌, ◌⊎◌, List, [], ◌∷◌, ◌++◌, length, take, drop, set, ◌==◌, nat_le, nat_lt, slice_index_or}
+use Rattle.std.specs.Prelude.{◌≡◌, ℕ, ◌+◌, ◌*◌, ◌<◌, ◌≤◌, Bool, true, false, ◌&&◌, ◌||◌, ◌⊎◌, List, [], ◌∷◌, ◌++◌, length, take, drop, ◌==◌, nat_le, nat_lt, slice_index_or}
 use Rattle.meaning.specs.Text.{pick, Token, letter, space, mark, note, command, given, Tokens, none, more, Atom, ch, gap, tag, foot, Definition, atoms, all_written}
-use Rattle.meaning.specs.Lines.{Word, nothing_yet, split, natural, long, line_cost, BreaksUp, cost, Best, best, Placed, Line, paragraph}
-use Rattle.meaning.specs.Pages.{Looks, Page, fill, all_feet, all_lines, pages, page_of, Book, book}
-use Rattle.meaning.specs.Calls.{Call, put, cut, define, show, where_is, how_many, put_in, Answer, Limits, Text, good_call, fits, turned, after, answer, answers, ran, empty, thin_tokens, thin_calls}
+use Rattle.meaning.specs.Lines.{Word, natural, long, BreaksUp, cost, best, Placed, Line, paragraph}
+use Rattle.meaning.specs.Pages.{Looks, Page, fill, all_feet, all_lines, pages, page_of, book}
+use Rattle.meaning.specs.Calls.{Call, put, cut, define, show, where_is, how_many, put_in, Answer, Limits, Text, turned, after, answers, ran, empty}
 
 -- how a book may look: letters 1 to 63 wide, a width of 1 to 1,000, 1 to 255 rows
 pub record GoodLooks (g : Looks) : Type 0 where

@@ -1,4 +1,6 @@
 // The laws of the meaning: each is the contract of a function that does nothing, so that the check asks for its proof.
+#![tactic(auto)]
+
 ghost use Rattle.meaning.specs.Promise.{OneReading, BestOfAll, SticksOut, LettersKept, PageByPage, NumbersRight, AtRest, EachByItself, TurnedAway, OnlyAsked};
 ghost use Rattle.meaning.specs.Examples.{Examples};
 

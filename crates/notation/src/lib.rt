@@ -1,4 +1,6 @@
 // Tokens as text, and the text read into the tokens' form as bytes.
+#![tactic(auto)]
+
 mod fault;
 mod laws;
 mod number;

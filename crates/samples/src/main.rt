@@ -1,4 +1,6 @@
 // Sets small texts from nothing, and prints their pages.
+#![tactic(auto)]
+
 use layout::{count_pages, show_rows};
 use std::alloc::{AllocError, Global};
 use std::{fmt, io};

@@ -1,4 +1,6 @@
 // A session with a book in lent memory: it is opened, and calls are answered, bytes in and bytes out.
+#![tactic(auto)]
+
 mod answering;
 mod promise;
 

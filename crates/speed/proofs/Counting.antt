@@ -12,7 +12,7 @@ use Rattle.words.specs.Atoms.{atom_number, all_plain, plain_atoms, within, plain
 use Rattle.words.specs.Slots.{slot_place, Stays, Splits}
 use Rattle.words.specs.Laws
 use Rattle.words.proofs.Places.{slots_measured}
-use Rattle.linebreak.specs.Slots.{Bounds, Measured, Breaks, Leaves, Solved, followed}
+use Rattle.linebreak.specs.Slots.{Bounds, Breaks, Leaves, Solved, followed}
 use Rattle.linebreak.proofs.Paths.{lines_follow}
 use Rattle.speed.specs.Counts.{lines_in, used}
 

@@ -1,4 +1,6 @@
 // Breaks paragraphs of letters and spaces into lines, and says how many there are, and on demand how long it took.
+#![tactic(auto)]
+
 ghost use Rattle.std.specs.Prelude.{◌≤◌, length};
 
 use lines::count_lines;

@@ -1,4 +1,6 @@
 // The book in lent memory: bytes for its tokens, and numbers for all the rest.
+#![tactic(auto)]
+
 mod changes;
 mod kept;
 mod opening;

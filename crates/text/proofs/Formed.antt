@@ -11,7 +11,6 @@ use Rattle.notation.specs.Steps.{then}
 use Rattle.notation.proofs.Closes.{notes_tokens}
 use Rattle.notation.proofs.Thens.{no_ok, then_ok}
 use Rattle.text.specs.declared.call.Verb.TheVariants as verb
-use Rattle.text.specs.declared.fault.Fault.{Fault}
 use Rattle.text.specs.declared.fault.Fault.TheVariants.{TooMuch}
 use Rattle.text.specs.Calls.{tokens_in, with_tokens, put_by, after_word, nothing_more}
 use Rattle.text.specs.Laws.{LinesFormed}

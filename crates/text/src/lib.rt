@@ -1,4 +1,6 @@
 // What files of calls and answers say as text: lines that open a book and lines that are calls are read, and answers are shown.
+#![tactic(auto)]
+
 mod call;
 mod entry;
 mod fault;

@@ -1,4 +1,6 @@
 // Breaks small paragraphs in every way, and sees that no way is better than the one that break_lines finds.
+#![tactic(auto)]
+
 ghost use Rattle.std.specs.Prelude.{◌<◌, ◌≤◌, length};
 
 use linebreak::break_lines;

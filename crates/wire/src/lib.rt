@@ -1,4 +1,6 @@
 // What goes in and out of a session as bytes: calls, and answers to them.
+#![tactic(auto)]
+
 mod answer;
 mod call;
 mod fit;

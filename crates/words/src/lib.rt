@@ -1,4 +1,6 @@
 // The atoms of a paragraph and its words, in the working part of lent memory.
+#![tactic(auto)]
+
 mod laws;
 mod read;
 mod slots;

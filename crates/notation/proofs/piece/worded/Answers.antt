@@ -1,4 +1,4 @@
-use Rattle.std.proofs.Common.{true, false, take, codes, refl}
+use Rattle.std.proofs.Common.{refl}
 use Rattle.std.proofs.lemmas.Result.{err_from_is_err_and}
 use Rattle.notation.specs.Pieces.{worded}
 use Rattle.notation.proofs.piece.worded.Goals as goal

@@ -3,7 +3,7 @@ use Rattle.std.proofs.lemmas.List.{nil_from_length}
 use Rattle.std.proofs.lemmas.Result.{err_from_is_err_and}
 use Rattle.std.proofs.lemmas.Bool.{ltb-true, ltb-false}
 use Rattle.meaning.specs.Calls.{put, cut, define, where_is, put_in}
-use Rattle.wire.specs.Bytes.{reading_by, reading, two_at, four_at}
+use Rattle.wire.specs.Bytes.{reading_by, reading}
 use Rattle.wire.specs.declared.call.Call.TheVariants.{Put, Cut, Define, Show, WhereIs, HowMany, PutIn}
 use Rattle.wire.proofs.Firsts.{front}
 use Rattle.wire.proofs.Heads.{fixed_stops, fixed_reads, tokens_stops, tokens_reads, unknown_call}
