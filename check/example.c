@@ -1,6 +1,6 @@
 /* A book in this program's own arrays. To build and run it, in the repository's folder:
-       rt staticlib exports
-       gcc -O2 -Wall -Wextra check/example.c target/staticlib/libexports.a -o target/example
+       (cd crates/exports && rt lib)
+       gcc -O2 -Wall -Wextra check/example.c crates/exports/out/libexports.a -o target/example
        target/example
    The archive needs nothing but memcpy and memset of the C library. */
 #include <stdio.h>
