@@ -13,8 +13,9 @@ import os, re, sys
 
 WORD = r"[^\s(){}\[\];,.:@λ→×∷\"⌜⌝«»]+"
 TOKEN = re.compile(r'"(?:\\.|[^"\\\n])*"|' + WORD)
-# What the check makes up from the code begins so.
+# Files that answer the check's goals; other files of proofs/ have lemmas.
 ANSWERS = re.compile(r"/(Answers|Invariants|Proof|Choices)\.antt$")
+# What the check makes up from the code begins so.
 MADE = re.compile(r"^(then|else|loop|if|in_\w+|in|returns|overflow_\w+|bounds|slice_bounds|index|match|the|decreases|invariant|ghost|call)-")
 OUR = r"(?:answer|answer_tests|exports|layout|linebreak|machine|meaning|notation|print|samples|session|speed|store|telling|text|tries|wire|words)"
 
