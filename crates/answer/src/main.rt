@@ -23,7 +23,7 @@ and then come the calls
 A file may hold several books. Empty lines and lines that begin with # are passed over.
 A line that can't be read ends the program with status 1, and is told on standard error.";
 
-// The lent memory of a book, and room for an answer.
+// The lent memory of a book, and room for an answer. The program samples has the like: a library would need contracts on vectors for these few lines.
 #[derive(Drop)]
 struct Memory {
     tokens: Vec<u8>,
@@ -42,26 +42,23 @@ impl Memory {
     }
 
     // What the limits ask for; nothing where they are out of range.
-    fn open(
-        &mut self,
-        heap: Global,
-        limits: &Limits,
-        looks: &Looks,
-    ) -> io::Result<Result<(), Refusal>> {
-        let (tokens, rest) = match Asked::of(limits, looks) {
-            Some(asked) => (asked.tokens, asked.rest),
-            None => (0, 0),
-        };
+    fn lend(&mut self, heap: Global, limits: &Limits, looks: &Looks) -> io::Result<()> {
+        let asked = Asked::of(limits, looks);
+        let (tokens, rest) = asked.map_or((0, 0), |asked| (asked.tokens, asked.rest));
         self.tokens = vec![in heap; 0u8; tokens]?;
         self.rest = vec![in heap; 0u64; rest]?;
-        Ok(open(&mut self.tokens, &mut self.rest, limits, looks))
+        Ok(())
+    }
+
+    fn open(&mut self, limits: &Limits, looks: &Looks) -> Result<(), Refusal> {
+        open(&mut self.tokens, &mut self.rest, limits, looks)
     }
 
     // The answer's bytes. There is always room for them.
     fn call(&mut self, bytes: &[u8]) -> &[u8] {
         let written = call(&mut self.tokens, &mut self.rest, bytes, &mut self.out);
         let n = written.unwrap_or(0).min(self.out.len());
-        &self.out[0..n]
+        &self.out[..n]
     }
 }
 
@@ -83,7 +80,8 @@ fn answer_step(
     match step {
         Step::Nothing => Ok(()),
         Step::Open(limits, looks) => {
-            let outcome = memory.open(rt.alloc(), &limits, &looks)?;
+            memory.lend(rt.alloc(), &limits, &looks)?;
+            let outcome = memory.open(&limits, &looks);
             if outcome.is_err() {
                 reader.refused();
             }
@@ -100,6 +98,7 @@ fn answer_all<B: BufRead + Drop>(rt: &HostRuntime, mut input: B) -> io::Result<(
     let mut reader = Reader::new();
     let mut memory = Memory::none(rt.alloc())?;
     let mut line = Vec::new(rt.alloc());
+    // A loop over input needs a bound, and no input has so many lines.
     for n in 1..u64::MAX {
         line.clear();
         if input.read_until(b'\n', &mut line)? == 0 {
@@ -116,22 +115,24 @@ fn answer_all<B: BufRead + Drop>(rt: &HostRuntime, mut input: B) -> io::Result<(
     Ok(())
 }
 
+fn answer_file(rt: &HostRuntime, path: &str) -> io::Result<()> {
+    match fs::open(rt, path) {
+        Ok(file) => answer_all(rt, BufReader::new(rt.alloc(), file)?),
+        Err(error) => {
+            eprintln!(rt; "{path}: {error}")?;
+            Err(error)
+        }
+    }
+}
+
 fn main(rt: HostRuntime) -> io::Result<()> {
     let mut args = env::args(&rt)?;
     args.next();
-    match args.next() {
-        None => answer_all(&rt, BufReader::new(rt.alloc(), rt.stdin())?),
-        Some(name) => {
-            if name.as_str() == "--help" {
-                return println!(rt; "{HELP}");
-            }
-            match fs::open(&rt, name.as_str()) {
-                Ok(file) => answer_all(&rt, BufReader::new(rt.alloc(), file)?),
-                Err(error) => {
-                    eprintln!(rt; "{name}: {error}")?;
-                    Err(error)
-                }
-            }
-        }
+    let Some(arg) = args.next() else {
+        return answer_all(&rt, BufReader::new(rt.alloc(), rt.stdin())?);
+    };
+    match arg.as_str() {
+        "--help" => println!(rt; "{HELP}"),
+        path => answer_file(&rt, path),
     }
 }

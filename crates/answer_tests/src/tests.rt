@@ -8,9 +8,7 @@ const OPENED: &str = "limits 4 100 4 50\nwidths space 4 i 3 l 3 others 6\nwidth 
 // The first line at fault with what is wrong, as the program tells it; nothing where all lines are right.
 fn told(heap: Global, lines: &str) -> Result<String, AllocError> {
     let mut reader = Reader::new();
-    let mut number = 0u64;
-    for line in lines.lines() {
-        number = number.saturating_add(1);
+    for (number, line) in (1u64..).zip(lines.lines()) {
         if let Err(fault) = reader.read(heap, line.as_bytes()) {
             return format!(in heap; "line {number}: {fault}");
         }

@@ -1,3 +1,2 @@
 mod Told
-mod Plain
 mod Zero

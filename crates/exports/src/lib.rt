@@ -4,29 +4,27 @@
 
 mod promise;
 
-ghost use Rattle.std.specs.Prelude.{◌≡◌, ℕ, ◌≤◌, List, length, pos};
+ghost use Rattle.std.specs.Prelude.{◌≡◌, ℕ, ◌^◌, ◌<◌, pos, MatchOption};
 ghost use Rattle.meaning.specs.Calls.{Answer};
-ghost use Rattle.wire.specs.Bytes.{over, answer_bytes};
+ghost use Rattle.wire.specs.Bytes.{answer_bytes};
 ghost use Rattle.wire.specs.Refusals.{refusal_number, refusal_place};
 ghost use Rattle.store.specs.Opened.{tokens_asked, rest_asked};
 ghost use Rattle.exports.specs.Numbers.{refusing, asking_by, asked_number, opening_number, told_number, OpensAs, AnswersAs};
 
 pub use promise::exports_are_right;
 use session::{Asked, Limits, Looks, ROOM, call, open};
-use wire::Refusal;
+use wire::{AnswerKind, Refusal};
 
 // How many widths of letters a book is opened with.
 const LETTERS: usize = 95;
 
-// The first byte of an answer that is a refusal.
-const REFUSED: u8 = 1;
-
 fn below_zero(number: u8, place: u32) -> i64
     ensures { result ≡ refusing number place }
 {
-    -(number as i64 * 4_294_967_296 + place as i64)
+    -(i64::from(number) * 4_294_967_296 + i64::from(place))
 }
 
+// No `From`: neither type is this crate's.
 fn refused_by(why: Refusal) -> i64
     ensures { result ≡ refusing (refusal_number why) (refusal_place why) }
 {
@@ -45,7 +43,19 @@ fn asked_by(limits: &Limits) -> Option<Asked>
     Asked::of(limits, &looks)
 }
 
-// How many bytes are to be lent for tokens.
+// A part of the memory that limits ask for.
+fn asked_part<F: Fn(Asked) -> usize>(limits: Limits, part: F) -> i64
+    requires callable { F.IsAlwaysCallable part }
+    requires fits { MatchOption (asking_by limits) (Unit {0}) (λ asked. (n : ℕ) → F.post part asked n → n < 2 ^ 63) }
+    ensures { MatchOption (asking_by limits) (result ≡ refusing 3 2) (λ asked. (n : ℕ) × F.post part asked n × (result ≡ pos n)) }
+{
+    match asked_by(&limits) {
+        Some(asked) => part(asked) as i64,
+        None => refused_by(Refusal::BadOpening),
+    }
+}
+
+// How many bytes are to be lent for tokens. The limits stand apart in each signature, as C hands them over.
 #[unsafe(no_mangle)]
 pub extern "C" fn setter_tokens_asked(
     paragraphs: u32,
@@ -61,10 +71,7 @@ pub extern "C" fn setter_tokens_asked(
         definitions,
         bulk,
     };
-    match asked_by(&limits) {
-        Some(asked) => asked.tokens as i64,
-        None => refused_by(Refusal::BadOpening),
-    }
+    asked_part(limits, |asked| asked.tokens)
 }
 
 // How many numbers of 64 bits are to be lent for the rest.
@@ -83,19 +90,13 @@ pub extern "C" fn setter_rest_asked(
         definitions,
         bulk,
     };
-    match asked_by(&limits) {
-        Some(asked) => asked.rest as i64,
-        None => refused_by(Refusal::BadOpening),
-    }
+    asked_part(limits, |asked| asked.rest)
 }
 
 fn opening_number(opened: Result<(), Refusal>) -> i64
     ensures { result ≡ opening_number opened }
 {
-    match opened {
-        Ok(()) => 0,
-        Err(why) => refused_by(why),
-    }
+    opened.map_or_else(refused_by, |()| 0)
 }
 
 // 0 where the book is open. There must be just 95 widths.
@@ -113,11 +114,9 @@ pub extern "C" fn setter_open(
 ) -> i64
     ensures { OpensAs (record { paragraphs = paragraphs; tokens = limit_tokens; definitions = definitions; bulk = bulk }) (record { widths = widths.entry.now; width = width; rows = rows }) tokens.old rest.old tokens.new rest.new result }
 {
-    if widths.len() != LETTERS {
+    let Ok(widths) = <[u8; LETTERS]>::try_from(widths) else {
         return refused_by(Refusal::BadOpening);
-    }
-    let mut table = [0; LETTERS];
-    table.copy_from_slice(widths);
+    };
     let limits = Limits {
         paragraphs,
         tokens: limit_tokens,
@@ -125,23 +124,23 @@ pub extern "C" fn setter_open(
         bulk,
     };
     let looks = Looks {
-        widths: table,
+        widths,
         width,
         rows,
     };
     opening_number(open(tokens, rest, &limits, &looks))
 }
 
-// The number of the answer that `out` begins with, which has so many bytes.
-fn told_number(out: &[u8], written: usize) -> i64
-    requires { (6 ≤ length out.now) × (written ≤ length out.now) }
-    ensures { (a : Answer) (old : List ℕ) → out.now ≡ over (answer_bytes a) old → written ≡ length (answer_bytes a) → result ≡ told_number a }
+// The number of an answer: the session answers in bytes alone, so a refusal is read back from them.
+fn told_number(answer: &[u8]) -> i64
+    ensures { (a : Answer) → answer.now ≡ answer_bytes a → result ≡ told_number a }
 {
-    if out[0] != REFUSED {
-        return written as i64;
+    match answer {
+        [kind, number, p0, p1, p2, p3] if *kind == u8::from(AnswerKind::Refused) => {
+            below_zero(*number, u32::from_be_bytes([*p0, *p1, *p2, *p3]))
+        }
+        _ => answer.len() as i64,
     }
-    let place = u32::from_be_bytes([out[2], out[3], out[4], out[5]]);
-    below_zero(out[1], place)
 }
 
 // How many bytes of `out` the answer has; a refusal stands there too. 0 where `out` has no room for the longest answer.
@@ -155,7 +154,7 @@ pub extern "C" fn setter_call(
     ensures { AnswersAs tokens.old rest.old bytes.now out.old tokens.new rest.new out.new result }
 {
     match call(tokens, rest, bytes, out) {
-        Some(written) => told_number(out, written),
+        Some(written) => told_number(&out[..written]),
         None => 0,
     }
 }

@@ -1,8 +1,8 @@
 -- The lines of the paragraphs in memory: one paragraph after another, and none with notes.
-use Rattle.std.proofs.Common.{◌≡◌, ℕ, zero, suc, ◌+◌, ◌-◌, ◌<◌, ◌≤◌, leb, List, [], ◌∷◌, ◌++◌, length, get_or, take, drop, replicate, Some, None, Option, sym, refl, ap, ◌∙◌, ap₂, add-zero, arith}
+use Rattle.std.proofs.Common.{◌≡◌, ℕ, zero, suc, ◌+◌, ◌<◌, leb, List, [], ◌∷◌, ◌++◌, length, get_or, take, drop, replicate, Some, None, Option, sym, refl, ap, ◌∙◌, ap₂, arith}
 use Rattle.std.specs.List.{AllByRecursion as All}
 use Rattle.std.proofs.ByRecursion.{All-append, All-take, All-drop}
-use Rattle.std.proofs.lemmas.List.{append-nil, append_assoc, map-append}
+use Rattle.std.proofs.lemmas.List.{map-append}
 use Rattle.meaning.specs.Text.{Atom, ch, gap, tag, foot, letter, space, mark, page_of, note, command, given, Tokens, none, more}
 use Rattle.meaning.specs.Lines.{Word, Line, Placed, nothing_yet, is_blank, split, feet_of, set_lines}
 use Rattle.meaning.specs.Pages.{Looks, all_feet}
@@ -12,7 +12,7 @@ use Rattle.words.specs.Atoms.{before_all, plain_atoms, within}
 use Rattle.wire.specs.Bytes.{tokens_of}
 use Rattle.layout.specs.Sheets.{atoms_or_none, paragraph_atoms, paragraph_words, paragraph_lines}
 use Rattle.layout.specs.Fills.{heights}
-use Rattle.layout.specs.Books.{sheet_at, bytes_at, book_lines, lines_after}
+use Rattle.layout.specs.Books.{sheet_at, bytes_at, book_lines, lines_in}
 use Rattle.layout.specs.declared.sheet.Sheet.{Sheet}
 use Rattle.layout.proofs.PageLines.{Footless, heights_one}
 
@@ -73,42 +73,22 @@ paragraph_footless : (s : Sheet) (bytes : List ℕ) → All Footless (paragraph_
 paragraph_footless s bytes =
     set_footless _ _ (paragraph_words s bytes) _ (split_footless (paragraph_atoms s bytes) nothing_yet (simple_within s.bulk (plain_atoms (tokens_of bytes)) (simple_atoms (tokens_of bytes))) refl)
 
-module _ (ts rs : List ℕ) where
-  pub book_footless : (k n : ℕ) → All Footless (book_lines ts rs k n)
-  unfolding book_lines
-  book_footless k zero = tt
-  book_footless k (suc n) = All-append Footless (paragraph_lines (sheet_at rs) (bytes_at ts rs k)) (book_lines ts rs (k + 1) n) (paragraph_footless (sheet_at rs) (bytes_at ts rs k)) (book_footless (k + 1) n)
+pub lines_footless : (s : Sheet) (ps : List (List ℕ)) → All Footless (lines_in s ps)
+lines_footless s [] = tt
+lines_footless s (p ∷ ps) = All-append Footless (paragraph_lines s p) (lines_in s ps) (paragraph_footless s p) (lines_footless s ps)
 
-  -- the first of several paragraphs, and the last of them
-  pub book_first : (k n m : ℕ) → n - k ≡ m → k < n → book_lines ts rs k m ≡ paragraph_lines (sheet_at rs) (bytes_at ts rs k) ++ book_lines ts rs (k + 1) (n - (k + 1))
-  unfolding book_lines
-  book_first k n m e l = ap (book_lines ts rs k) (sym e ∙ f)
-    where
-      f : n - k ≡ suc (n - (k + 1))
-      f = omega arith
-
-  book_push : (k n : ℕ) → book_lines ts rs k (suc n) ≡ book_lines ts rs k n ++ paragraph_lines (sheet_at rs) (bytes_at ts rs (k + n))
-  unfolding book_lines
-  book_push k zero = append-nil (paragraph_lines (sheet_at rs) (bytes_at ts rs k)) ∙ ap (λ j. paragraph_lines (sheet_at rs) (bytes_at ts rs j)) (sym (add-zero k))
-  book_push k (suc n) =
-      let j : k + 1 + n ≡ k + suc n = omega arith in
-      ap (λ (ls : List Line). paragraph_lines (sheet_at rs) (bytes_at ts rs k) ++ ls) (book_push (k + 1) n ∙ ap (λ i. book_lines ts rs (k + 1) n ++ paragraph_lines (sheet_at rs) (bytes_at ts rs i)) j)
-      ∙ sym (append_assoc (paragraph_lines (sheet_at rs) (bytes_at ts rs k)) (book_lines ts rs (k + 1) n) (paragraph_lines (sheet_at rs) (bytes_at ts rs (k + suc n))))
-
-  pub book_more : (n : ℕ) → book_lines ts rs 0 (n + 1) ≡ book_lines ts rs 0 n ++ paragraph_lines (sheet_at rs) (bytes_at ts rs n)
-  book_more n =
-      let one : n + 1 ≡ suc n = omega arith in
-      let none : 0 + n ≡ n = omega arith in
-      ap (book_lines ts rs 0) one ∙ (book_push 0 n ∙ ap (λ i. book_lines ts rs 0 n ++ paragraph_lines (sheet_at rs) (bytes_at ts rs i)) none)
-
-  -- before a paragraph, and from it on
-  pub book_parts : (k i n : ℕ) → i ≤ n → book_lines ts rs k n ≡ book_lines ts rs k i ++ book_lines ts rs (k + i) (n - i)
-  unfolding book_lines
-  book_parts k zero n l = ap₂ (book_lines ts rs) (omega arith) (omega arith)
-  book_parts k (suc i) zero l = absurd (omega arith)
-  book_parts k (suc i) (suc n) l =
-      ap (λ (ls : List Line). paragraph_lines (sheet_at rs) (bytes_at ts rs k) ++ ls) (book_parts (k + 1) i n (omega arith) ∙ ap₂ (λ j m. book_lines ts rs (k + 1) i ++ book_lines ts rs j m) (omega arith) (omega arith))
-      ∙ sym (append_assoc (paragraph_lines (sheet_at rs) (bytes_at ts rs k)) (book_lines ts rs (k + 1) i) (book_lines ts rs (k + suc i) (suc n - suc i)))
+-- paragraphs whose bytes stand in memory
+pub lines_of_bytes :
+    (ts rs : List ℕ) (ps : List (List ℕ)) (k n : ℕ) → length ps ≡ n → ((i : ℕ) → i < n → get_or ps i [] ≡ bytes_at ts rs (k + i)) → book_lines ts rs k n ≡ lines_in (sheet_at rs) ps
+unfolding book_lines
+lines_of_bytes ts rs [] k zero e h = refl
+lines_of_bytes ts rs [] k (suc n) e h = absurd (omega arith)
+lines_of_bytes ts rs (p ∷ ps) k zero e h = absurd (omega arith)
+lines_of_bytes ts rs (p ∷ ps) k (suc n) e h =
+    let here : k + 0 ≡ k = omega arith in
+    let first : p ≡ bytes_at ts rs k = h 0 (omega arith) ∙ ap (bytes_at ts rs) here in
+    let behind : (i : ℕ) → i < n → get_or ps i [] ≡ bytes_at ts rs (k + 1 + i) = λ i l. h (suc i) (omega arith) ∙ ap (bytes_at ts rs) (omega arith) in
+    ap₂ (λ (a b : List Line). a ++ b) (ap (paragraph_lines (sheet_at rs)) (sym first)) (lines_of_bytes ts rs ps (k + 1) n (omega arith) behind)
 
 pub heights_append : (g : Looks) (ls ms : List Line) → heights g (ls ++ ms) ≡ heights g ls ++ heights g ms
 heights_append g ls ms = map-append (λ (l : Line). suc (length (all_feet g l.feet))) ls ms
@@ -122,13 +102,7 @@ letters_append (l ∷ ls) ms = ap (λ (rs : List (List Placed)). l.letters ∷ r
 pub paragraph_heights : (g : Looks) (s : Sheet) (bytes : List ℕ) → heights g (paragraph_lines s bytes) ≡ replicate (length (paragraph_lines s bytes)) 1
 paragraph_heights g s bytes = heights_one g (paragraph_lines s bytes) (paragraph_footless s bytes)
 
--- rows from a paragraph on
-module _ (ts rs : List ℕ) (k : ℕ) where
-  pub rows_first : k < get_or rs 4 0 → letters_of (lines_after ts rs k) ≡ letters_of (paragraph_lines (sheet_at rs) (bytes_at ts rs k)) ++ letters_of (lines_after ts rs (k + 1))
-  rows_first l =
-      ap letters_of (book_first ts rs k (get_or rs 4 0) (get_or rs 4 0 - k) refl l)
-      ∙ letters_append (paragraph_lines (sheet_at rs) (bytes_at ts rs k)) (lines_after ts rs (k + 1))
-
-  pub rows_past : get_or rs 4 0 ≤ k → letters_of (lines_after ts rs k) ≡ []
-  unfolding book_lines letters_of
-  rows_past l = let none : get_or rs 4 0 - k ≡ 0 = omega arith in ap (λ n. letters_of (book_lines ts rs k n)) none
+-- rows where no paragraphs are left
+pub no_letters : (s : Sheet) (ps : List (List ℕ)) → ps ≡ [] → letters_of (lines_in s ps) ≡ []
+unfolding letters_of
+no_letters s ps e = ap (λ (qs : List (List ℕ)). letters_of (lines_in s qs)) e

@@ -1,5 +1,6 @@
 pub mod Splitting
 pub mod Breaking
+pub mod Keeping
 pub mod LineSteps
 pub mod Walking
 pub mod Seeking
@@ -15,4 +16,3 @@ pub mod BookLines
 pub mod Seen
 pub mod BookWalks
 pub mod Asking
-pub mod Cutting

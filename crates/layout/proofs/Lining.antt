@@ -14,170 +14,165 @@ use Rattle.layout.specs.declared.line.Gaps.{Gaps}
 use Rattle.layout.proofs.Writing.{written, written_none, written_part, written_more, length_written}
 use Rattle.layout.proofs.Placing.{word_bytes, words_bytes, words_bytes_more, length_word_bytes}
 
-pub length_letters_at : (work : List ℕ) (v : Word) → v.first + v.atoms ≤ length work → length (letters_at work v) ≡ v.atoms
-length_letters_at work v l = length-take-le v.atoms (drop v.first work) (omega (arith, l, length-drop v.first work))
+pub length_letters_at : (atoms : List ℕ) (v : Word) → v.first + v.atoms ≤ length atoms → length (letters_at atoms v) ≡ v.atoms
+length_letters_at atoms v l = length-take-le v.atoms (drop v.first atoms) (omega (arith, l, length-drop v.first atoms))
 
-pub letter_at : (work : List ℕ) (v : Word) (i : ℕ) → i < v.atoms → get_or work (v.first + i) 0 ≡ get_or (letters_at work v) i 0
-letter_at work v i l = sym (get_or-take v.atoms (drop v.first work) i 0 l ∙ get_or-drop v.first work i 0)
+-- the part of the atoms that the code cuts out for a word
+pub letters_cut : (atoms : List ℕ) (v : Word) → take (v.first + v.atoms - v.first) (drop v.first atoms) ≡ letters_at atoms v
+letters_cut atoms v = ap (λ (n : ℕ). take n (drop v.first atoms)) (omega arith)
 
-abbrev pub EachFits : List ℕ → List ℕ → ℕ → ℕ → ℕ → Type 0
-EachFits widths work bulk first n = (k : ℕ) → first ≤ k → k < first + n → WordFits widths work (word_in work bulk k)
+pub letters_small : (widths atoms : List ℕ) (v : Word) → WordFits widths atoms v → (i : ℕ) → i < length (letters_at atoms v) → get_or (letters_at atoms v) i 0 < 256
+letters_small widths atoms v fits i l =
+    let here : i < v.atoms = omega (arith, length_letters_at atoms v fits.within) in
+    rw (get_or-take v.atoms (drop v.first atoms) i 0 here ∙ get_or-drop v.first atoms i 0) (fits.letters i here)
 
-pub length_words_from : (work : List ℕ) (bulk first n : ℕ) → length (words_from work bulk first n) ≡ n
+abbrev pub EachFits : List ℕ → List ℕ → List ℕ → ℕ → ℕ → Type 0
+EachFits widths atoms slots first n = (k : ℕ) → first ≤ k → k < first + n → WordFits widths atoms (word_in slots k)
+
+pub length_words_from : (atoms slots : List ℕ) (first n : ℕ) → length (words_from atoms slots first n) ≡ n
 unfolding words_from
-length_words_from work bulk first zero = refl
-length_words_from work bulk first (suc n) = ap suc (length_words_from work bulk (first + 1) n)
+length_words_from atoms slots first zero = refl
+length_words_from atoms slots first (suc n) = ap suc (length_words_from atoms slots (first + 1) n)
 
-module _ (widths work : List ℕ) (bulk : ℕ) where
-  letters_count : (k : ℕ) → WordFits widths work (word_in work bulk k) → length (word_of work bulk k).letters ≡ (word_in work bulk k).atoms
-  letters_count k h = length_letters_at work (word_in work bulk k) h.within
+module _ (widths atoms slots : List ℕ) where
+  letters_count : (k : ℕ) → WordFits widths atoms (word_in slots k) → length (word_of atoms slots k).letters ≡ (word_in slots k).atoms
+  letters_count k h = length_letters_at atoms (word_in slots k) h.within
 
-  pub widths_le : (first n : ℕ) → EachFits widths work bulk first n → widths_from work bulk first n ≤ 255 * letters_in (words_from work bulk first n)
+  pub widths_le : (first n : ℕ) → EachFits widths atoms slots first n → widths_from slots first n ≤ 255 * letters_in (words_from atoms slots first n)
   unfolding words_from letters_in widths_from
   widths_le first zero h = omega arith
   widths_le first (suc n) h =
-      let here : WordFits widths work (word_in work bulk first) = h first (omega arith) (omega arith) in
+      let here : WordFits widths atoms (word_in slots first) = h first (omega arith) (omega arith) in
       omega (arith, here.narrow, letters_count first here, widths_le (first + 1) n (λ k l m. h k (omega arith) (omega arith)))
 
   natural_more :
-      (first n : ℕ) → EachFits widths work bulk first (suc n) →
-      natural (wide_by widths) (words_from work bulk first (suc n)) ≡ widths_from work bulk first (suc n) + n * wide_by widths 32
+      (first n : ℕ) → EachFits widths atoms slots first (suc n) →
+      natural (wide_by widths) (words_from atoms slots first (suc n)) ≡ widths_from slots first (suc n) + n * wide_by widths 32
   unfolding natural words_from widths_from
   natural_more first zero h = omega (arith, (h first (omega arith) (omega arith)).width)
   natural_more first (suc n) h =
-      let later : EachFits widths work bulk (first + 1) (suc n) = λ k l m. h k (omega arith) (omega arith) in
+      let later : EachFits widths atoms slots (first + 1) (suc n) = λ k l m. h k (omega arith) (omega arith) in
       omega (arith, (h first (omega arith) (omega arith)).width, suc-mul n (wide_by widths 32), natural_more (first + 1) n later)
 
   -- a space between each two
   pub natural_from :
-      (first n : ℕ) → EachFits widths work bulk first n →
-      natural (wide_by widths) (words_from work bulk first n) ≡ widths_from work bulk first n + (n - 1) * wide_by widths 32
+      (first n : ℕ) → EachFits widths atoms slots first n →
+      natural (wide_by widths) (words_from atoms slots first n) ≡ widths_from slots first n + (n - 1) * wide_by widths 32
   unfolding natural words_from widths_from
   natural_from first zero h = omega (arith, zero-mul (wide_by widths 32))
   natural_from first (suc n) h =
       let gaps : suc n - 1 ≡ n = omega arith in
-      natural_more first n h ∙ ap (λ (m : ℕ). widths_from work bulk first (suc n) + m * wide_by widths 32) (sym gaps)
+      natural_more first n h ∙ ap (λ (m : ℕ). widths_from slots first (suc n) + m * wide_by widths 32) (sym gaps)
 
 -- the words before slot k are added up: what is left makes it the line
-pub record Summed (work : List ℕ) (bulk first end k letters width : ℕ) : Type 0 where
-  pub count : letters + letters_in (words_from work bulk k (end - k)) ≡ letters_in (words_from work bulk first (end - first))
-  pub wide : width + widths_from work bulk k (end - k) ≡ widths_from work bulk first (end - first)
-
-pub summed_none : (work : List ℕ) (bulk first end : ℕ) → Summed work bulk first end first 0 0
-summed_none work bulk first end = record { count = omega arith; wide = omega arith }
+pub record Summed (atoms slots : List ℕ) (first end k letters width : ℕ) : Type 0 where
+  pub count : letters + letters_in (words_from atoms slots k (end - k)) ≡ letters_in (words_from atoms slots first (end - first))
+  pub wide : width + widths_from slots k (end - k) ≡ widths_from slots first (end - first)
 
 pub summed_more :
-    {widths work : List ℕ} {bulk first end k letters width : ℕ} → Summed work bulk first end k letters width →
-    (v : Word) → k < end → v ≡ word_in work bulk k → WordFits widths work (word_in work bulk k) →
-    Summed work bulk first end (k + 1) (letters + v.atoms) (width + v.width)
+    {widths atoms slots : List ℕ} {first end k letters width : ℕ} → Summed atoms slots first end k letters width →
+    (v : Word) → k < end → v ≡ word_in slots k → WordFits widths atoms v →
+    Summed atoms slots first end (k + 1) (letters + v.atoms) (width + v.width)
 unfolding words_from letters_in widths_from
-summed_more {widths} {work} {bulk} {first} {end} {k} {letters} {width} h v l e fits =
+summed_more {widths} {atoms} {slots} {first} {end} {k} {letters} {width} h v l e v_fits =
+    let fits : WordFits widths atoms (word_in slots k) = rw e at v_fits in
     let m : ℕ = end - (k + 1) in
     let left : end - k ≡ suc m = omega (arith, l) in
-    let atoms : v.atoms ≡ length (word_of work bulk k).letters = ap (λ (u : Word). u.atoms) e ∙ sym (letters_count widths work bulk k fits) in
-    let width_is : v.width ≡ (word_in work bulk k).width = ap (λ (u : Word). u.width) e in
-    let count_left : letters_in (words_from work bulk k (end - k)) ≡ length (word_of work bulk k).letters + letters_in (words_from work bulk (k + 1) m) =
-    ap (λ (n : ℕ). letters_in (words_from work bulk k n)) left
+    let many : v.atoms ≡ length (word_of atoms slots k).letters = ap (λ (u : Word). u.atoms) e ∙ sym (letters_count widths atoms slots k fits) in
+    let width_is : v.width ≡ (word_in slots k).width = ap (λ (u : Word). u.width) e in
+    let count_left : letters_in (words_from atoms slots k (end - k)) ≡ length (word_of atoms slots k).letters + letters_in (words_from atoms slots (k + 1) m) =
+    ap (λ (n : ℕ). letters_in (words_from atoms slots k n)) left
     in
-    let wide_left : widths_from work bulk k (end - k) ≡ (word_in work bulk k).width + widths_from work bulk (k + 1) m =
-    ap (λ (n : ℕ). widths_from work bulk k n) left
+    let wide_left : widths_from slots k (end - k) ≡ (word_in slots k).width + widths_from slots (k + 1) m =
+    ap (λ (n : ℕ). widths_from slots k n) left
     in
     record {
-      count = omega (arith, h.count, atoms, count_left);
+      count = omega (arith, h.count, many, count_left);
       wide = omega (arith, h.wide, width_is, wide_left);
     }
 
 pub summed_le :
-    {work : List ℕ} {bulk first k letters width : ℕ} (n : ℕ) → Summed work bulk first (first + n) k letters width →
-    (letters ≤ letters_in (words_from work bulk first n)) × (width ≤ widths_from work bulk first n)
-summed_le {work} {bulk} {first} n h =
-    let all : first + n - first ≡ n = omega arith in (
-      omega (arith, h.count, ap (λ (m : ℕ). letters_in (words_from work bulk first m)) all),
-      omega (arith, h.wide, ap (λ (m : ℕ). widths_from work bulk first m) all),
-    )
+    {atoms slots : List ℕ} {first end k letters width : ℕ} → Summed atoms slots first end k letters width →
+    (letters ≤ letters_in (words_from atoms slots first (end - first))) × (width ≤ widths_from slots first (end - first))
+summed_le h = (omega (arith, h.count), omega (arith, h.wide))
 
 pub summed_all :
-    {work : List ℕ} {bulk first k letters width : ℕ} (n : ℕ) → Summed work bulk first (first + n) k letters width → first + n ≤ k →
-    (letters ≡ letters_in (words_from work bulk first n)) × (width ≡ widths_from work bulk first n)
+    {atoms slots : List ℕ} {first end k letters width : ℕ} → Summed atoms slots first end k letters width → end ≤ k →
+    (letters ≡ letters_in (words_from atoms slots first (end - first))) × (width ≡ widths_from slots first (end - first))
 unfolding words_from letters_in widths_from
-summed_all {work} {bulk} {first} {k} n h l =
-    let none_left : first + n - k ≡ 0 = omega (arith, l) in
-    let all : first + n - first ≡ n = omega arith in
-    let count_left : letters_in (words_from work bulk k (first + n - k)) ≡ 0 = ap (λ (m : ℕ). letters_in (words_from work bulk k m)) none_left in
-    let wide_left : widths_from work bulk k (first + n - k) ≡ 0 = ap (λ (m : ℕ). widths_from work bulk k m) none_left in (
-      omega (arith, h.count, count_left, ap (λ (m : ℕ). letters_in (words_from work bulk first m)) all),
-      omega (arith, h.wide, wide_left, ap (λ (m : ℕ). widths_from work bulk first m) all),
-    )
+summed_all {atoms} {slots} {first} {end} {k} h l =
+    let none_left : end - k ≡ 0 = omega (arith, l) in
+    let count_left : letters_in (words_from atoms slots k (end - k)) ≡ 0 = ap (λ (m : ℕ). letters_in (words_from atoms slots k m)) none_left in
+    let wide_left : widths_from slots k (end - k) ≡ 0 = ap (λ (m : ℕ). widths_from slots k m) none_left in
+    (omega (arith, h.count, count_left), omega (arith, h.wide, wide_left))
 
 -- the first gap is wider by one at most than the others
 pub gap_le : (g : Gaps) → g.each + pick (ltb 0 g.extra) 1 0 ≤ g.each + 1
 gap_le g = pick_both (ltb 0 g.extra) 1 0 (λ (n : ℕ). g.each + n ≤ g.each + 1) (λ _. omega arith) (λ _. omega arith)
 
 -- the words before slot k are written, and x is where the next one begins: what is left to write makes it the line
-pub record Worded (widths work : List ℕ) (bulk first end : ℕ) (gaps : Gaps) (before out : List ℕ) (k letters x : ℕ) (left : Gaps) : Type 0 where
+pub record Worded (widths atoms slots : List ℕ) (first end : ℕ) (gaps : Gaps) (before out : List ℕ) (k letters x : ℕ) (left : Gaps) : Type 0 where
   pub bytes :
-      written (5 * letters) (words_bytes (wide_by widths) x (words_from work bulk k (end - k)) left.each left.extra) out
-      ≡ over (words_bytes (wide_by widths) 0 (words_from work bulk first (end - first)) gaps.each gaps.extra) before
+      written (5 * letters) (words_bytes (wide_by widths) x (words_from atoms slots k (end - k)) left.each left.extra) out
+      ≡ over (words_bytes (wide_by widths) 0 (words_from atoms slots first (end - first)) gaps.each gaps.extra) before
   pub as_long : length out ≡ length before
-  pub count : letters + letters_in (words_from work bulk k (end - k)) ≡ letters_in (words_from work bulk first (end - first))
+  pub count : letters + letters_in (words_from atoms slots k (end - k)) ≡ letters_in (words_from atoms slots first (end - first))
   pub near : x ≤ 255 * letters + 1300 * (k - first)
   pub each : left.each ≡ gaps.each
 
-pub worded_none : (widths work : List ℕ) (bulk first end : ℕ) (gaps : Gaps) (out : List ℕ) → Worded widths work bulk first end gaps out out first 0 0 gaps
-worded_none widths work bulk first end gaps out = record { bytes = refl; as_long = refl; count = omega arith; near = omega arith; each = refl }
-
-module _ {widths work : List ℕ} {bulk first : ℕ} {gaps : Gaps} {before out : List ℕ} {k letters x : ℕ} {left : Gaps}
-    (n : ℕ) (h : Worded widths work bulk first (first + n) gaps before out k letters x left) where
+module _ {widths atoms slots : List ℕ} {first end : ℕ} {gaps : Gaps} {before out : List ℕ} {k letters x : ℕ} {left : Gaps}
+    (h : Worded widths atoms slots first end gaps before out k letters x left) where
   -- there is room for the word
   pub worded_room :
-      k < first + n → WordFits widths work (word_in work bulk k) → letters + (word_in work bulk k).atoms ≤ letters_in (words_from work bulk first n)
+      (v : Word) → k < end → v ≡ word_in slots k → WordFits widths atoms v → letters + v.atoms ≤ letters_in (words_from atoms slots first (end - first))
   unfolding words_from letters_in
-  worded_room l fits =
-      let m : ℕ = first + n - (k + 1) in
-      let all : first + n - first ≡ n = omega arith in
-      let later : first + n - k ≡ suc m = omega (arith, l) in
-      let count_left : letters_in (words_from work bulk k (first + n - k)) ≡ length (word_of work bulk k).letters + letters_in (words_from work bulk (k + 1) m) =
-      ap (λ (j : ℕ). letters_in (words_from work bulk k j)) later
+  worded_room v l e v_fits =
+      let fits : WordFits widths atoms (word_in slots k) = rw e at v_fits in
+      let m : ℕ = end - (k + 1) in
+      let later : end - k ≡ suc m = omega (arith, l) in
+      let count_left : letters_in (words_from atoms slots k (end - k)) ≡ length (word_of atoms slots k).letters + letters_in (words_from atoms slots (k + 1) m) =
+      ap (λ (j : ℕ). letters_in (words_from atoms slots k j)) later
       in
-      omega (arith, h.count, ap (λ (j : ℕ). letters_in (words_from work bulk first j)) all, count_left, letters_count widths work bulk k fits)
+      omega (arith, h.count, count_left, letters_count widths atoms slots k fits, ap (λ (u : Word). u.atoms) e)
 
   pub worded_more :
-      (v : Word) (space gap : ℕ) (others : Gaps) (part : List ℕ) → first ≤ k → k < first + n →
-      5 * letters_in (words_from work bulk first n) ≤ length before → gaps.each ≤ 1000 →
-      v ≡ word_in work bulk k → WordFits widths work (word_in work bulk k) → space ≡ wide_by widths 32 → space ≤ 255 →
+      (v : Word) (space gap : ℕ) (others : Gaps) (part : List ℕ) → first ≤ k → k < end →
+      5 * letters_in (words_from atoms slots first (end - first)) ≤ length before → gaps.each ≤ 1000 →
+      v ≡ word_in slots k → WordFits widths atoms v → space ≡ wide_by widths 32 → space ≤ 255 →
       gap ≡ left.each + pick (ltb 0 left.extra) 1 0 → others ≡ behind_first left →
-      part ≡ over (word_bytes (wide_by widths) x (letters_at work v)) (take (length out - 5 * letters) (drop (5 * letters) out)) →
-      Worded widths work bulk first (first + n) gaps before (put_mid (5 * letters) (length out - 5 * letters) out part)
+      part ≡ over (word_bytes (wide_by widths) x (letters_at atoms v)) (take (length out - 5 * letters) (drop (5 * letters) out)) →
+      Worded widths atoms slots first end gaps before (put_mid (5 * letters) (length out - 5 * letters) out part)
       (k + 1) (letters + v.atoms) (x + (v.width + space + gap)) others
   unfolding words_from letters_in
-  worded_more v space gap others part from l fit wide_gaps e fits space_is small gap_is others_are g =
+  worded_more v space gap others part from l fit wide_gaps e v_fits space_is small gap_is others_are g =
+      let fits : WordFits widths atoms (word_in slots k) = rw e at v_fits in
       let wide : ℕ → ℕ = wide_by widths in
-      let m : ℕ = first + n - (k + 1) in
-      let later : first + n - k ≡ suc m = omega (arith, l) in
-      let mine : List ℕ = word_bytes wide x (letters_at work v) in
+      let m : ℕ = end - (k + 1) in
+      let later : end - k ≡ suc m = omega (arith, l) in
+      let mine : List ℕ = word_bytes wide x (letters_at atoms v) in
       let next : ℕ = x + (v.width + space + gap) in
-      let ws : List Lines.Word = words_from work bulk (k + 1) m in
+      let ws : List Lines.Word = words_from atoms slots (k + 1) m in
       let rest : List ℕ = words_bytes wide next ws others.each others.extra in
-      let atoms : v.atoms ≡ (word_in work bulk k).atoms = ap (λ (u : Word). u.atoms) e in
-      let width_is : v.width ≡ (word_in work bulk k).width = ap (λ (u : Word). u.width) e in
+      let many : v.atoms ≡ (word_in slots k).atoms = ap (λ (u : Word). u.atoms) e in
+      let width_is : v.width ≡ (word_in slots k).width = ap (λ (u : Word). u.width) e in
       let mine_long : length mine ≡ 5 * v.atoms =
-      length_word_bytes wide x (letters_at work v)
-      ∙ ap (λ (u : Word). 5 * length (letters_at work u)) e
-      ∙ ap (λ (j : ℕ). 5 * j) (letters_count widths work bulk k fits ∙ sym atoms)
+      length_word_bytes wide x (letters_at atoms v)
+      ∙ ap (λ (u : Word). 5 * length (letters_at atoms u)) e
+      ∙ ap (λ (j : ℕ). 5 * j) (letters_count widths atoms slots k fits ∙ sym many)
       in
-      let room : 5 * letters + length mine ≤ length out = omega (arith, worded_room l fits, fit, atoms, mine_long, h.as_long) in
+      let room : 5 * letters + length mine ≤ length out = omega (arith, worded_room v l e v_fits, fit, mine_long, h.as_long) in
       let now : put_mid (5 * letters) (length out - 5 * letters) out part ≡ written (5 * letters) mine out = written_part (5 * letters) mine out part g in
-      let next_is : x + long wide (letters_at work (word_in work bulk k)) + wide 32 + left.each + pick (ltb 0 left.extra) 1 0 ≡ next =
+      let next_is : x + long wide (letters_at atoms (word_in slots k)) + wide 32 + left.each + pick (ltb 0 left.extra) 1 0 ≡ next =
       omega (arith, fits.width, width_is, space_is, gap_is)
       in
-      let bytes_left : words_bytes wide x (words_from work bulk k (first + n - k)) left.each left.extra ≡ mine ++ rest =
-      ap (λ (j : ℕ). words_bytes wide x (words_from work bulk k j) left.each left.extra) later
-      ∙ words_bytes_more wide x (word_of work bulk k) ws left.each left.extra
-      ∙ ap₂ (λ (u : Word) (y : ℕ). word_bytes wide x (letters_at work u) ++ words_bytes wide y ws left.each (left.extra - 1)) (sym e) next_is
+      let bytes_left : words_bytes wide x (words_from atoms slots k (end - k)) left.each left.extra ≡ mine ++ rest =
+      ap (λ (j : ℕ). words_bytes wide x (words_from atoms slots k j) left.each left.extra) later
+      ∙ words_bytes_more wide x (word_of atoms slots k) ws left.each left.extra
+      ∙ ap₂ (λ (u : Word) (y : ℕ). word_bytes wide x (letters_at atoms u) ++ words_bytes wide y ws left.each (left.extra - 1)) (sym e) next_is
       ∙ ap (λ (q : Gaps). mine ++ words_bytes wide next ws q.each q.extra) (sym others_are)
       in
-      let count_left : letters_in (words_from work bulk k (first + n - k)) ≡ length (word_of work bulk k).letters + letters_in ws =
-      ap (λ (j : ℕ). letters_in (words_from work bulk k j)) later
+      let count_left : letters_in (words_from atoms slots k (end - k)) ≡ length (word_of atoms slots k).letters + letters_in ws =
+      ap (λ (j : ℕ). letters_in (words_from atoms slots k j)) later
       in
       let behind : 5 * (letters + v.atoms) ≡ 5 * letters + length mine = omega (arith, mine_long) in
       record {
@@ -187,20 +182,18 @@ module _ {widths work : List ℕ} {bulk first : ℕ} {gaps : Gaps} {before out :
             ∙ ap (λ (bs : List ℕ). written (5 * letters) bs out) (sym bytes_left)
             ∙ h.bytes;
         as_long = ap length now ∙ length_written (5 * letters) mine out room ∙ h.as_long;
-        count = omega (arith, h.count, count_left, atoms, letters_count widths work bulk k fits);
-        near = omega (arith, h.near, from, fits.narrow, atoms, width_is, small, gap_is, gap_le left, h.each, wide_gaps);
+        count = omega (arith, h.count, count_left, many, letters_count widths atoms slots k fits);
+        near = omega (arith, h.near, from, fits.narrow, many, width_is, small, gap_is, gap_le left, h.each, wide_gaps);
         each = ap (λ (q : Gaps). q.each) others_are ∙ h.each;
       }
 
-  pub worded_all : first + n ≤ k → out ≡ over (words_bytes (wide_by widths) 0 (words_from work bulk first n) gaps.each gaps.extra) before
+  pub worded_all : end ≤ k → out ≡ over (words_bytes (wide_by widths) 0 (words_from atoms slots first (end - first)) gaps.each gaps.extra) before
   unfolding words_from letters_bytes place_words
   worded_all l =
-      let none_left : first + n - k ≡ 0 = omega (arith, l) in
-      let all : first + n - first ≡ n = omega arith in
-      let no_bytes : words_bytes (wide_by widths) x (words_from work bulk k (first + n - k)) left.each left.extra ≡ [] =
-      ap (λ (j : ℕ). words_bytes (wide_by widths) x (words_from work bulk k j) left.each left.extra) none_left
+      let none_left : end - k ≡ 0 = omega (arith, l) in
+      let no_bytes : words_bytes (wide_by widths) x (words_from atoms slots k (end - k)) left.each left.extra ≡ [] =
+      ap (λ (j : ℕ). words_bytes (wide_by widths) x (words_from atoms slots k j) left.each left.extra) none_left
       in
       sym (written_none (5 * letters) out)
       ∙ ap (λ (bs : List ℕ). written (5 * letters) bs out) (sym no_bytes)
       ∙ h.bytes
-      ∙ ap (λ (j : ℕ). over (words_bytes (wide_by widths) 0 (words_from work bulk first j) gaps.each gaps.extra) before) all

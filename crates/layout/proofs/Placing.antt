@@ -41,10 +41,6 @@ words_bytes wide x ws each extra = letters_bytes (place_words wide x ws each ext
 pub length_word_bytes : (wide : ℕ → ℕ) (x : ℕ) (cs : List ℕ) → length (word_bytes wide x cs) ≡ 5 * length cs
 length_word_bytes wide x cs = length_letters_bytes (place_letters wide x cs) ∙ ap (λ (n : ℕ). 5 * n) (length_place_letters wide x cs)
 
-pub length_words_bytes : (wide : ℕ → ℕ) (x : ℕ) (ws : List Word) (each extra : ℕ) → length (words_bytes wide x ws each extra) ≡ 5 * letters_in ws
-length_words_bytes wide x ws each extra =
-    length_letters_bytes (place_words wide x ws each extra) ∙ ap (λ (n : ℕ). 5 * n) (length_place_words wide x ws each extra)
-
 word_bytes_more : (wide : ℕ → ℕ) (x c : ℕ) (cs : List ℕ) → word_bytes wide x (c ∷ cs) ≡ (c ∷ four x) ++ word_bytes wide (x + wide c) cs
 unfolding letters_bytes place_letters
 word_bytes_more wide x c cs = refl
@@ -61,9 +57,6 @@ pub record Lettered (wide : ℕ → ℕ) (cs : List ℕ) (x : ℕ) (before out :
   pub bytes : written (5 * i) (word_bytes wide place (drop i cs)) out ≡ over (word_bytes wide x cs) before
   pub as_long : length out ≡ length before
   pub near : place ≤ x + 255 * i
-
-pub lettered_none : (wide : ℕ → ℕ) (cs : List ℕ) (x : ℕ) (out : List ℕ) → Lettered wide cs x out out 0 x
-lettered_none wide cs x out = record { bytes = refl; as_long = refl; near = omega arith }
 
 module _ {wide : ℕ → ℕ} {cs : List ℕ} {x : ℕ} {before out : List ℕ} {i place : ℕ} (h : Lettered wide cs x before out i place) where
   pub lettered_more :

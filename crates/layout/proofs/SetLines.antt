@@ -1,15 +1,21 @@
 -- A line set: its words placed, with the room shared among the gaps.
-use Rattle.std.proofs.Common.{◌≡◌, ℕ, ◌+◌, ◌-◌, ◌*◌, ◌/◌, ◌%◌, ◌≤◌, Bool, true, false, eqb, List, ◌++◌, length, sym, refl, ap, ◌∙◌, ap₂, arith}
+use Rattle.std.proofs.Common.{◌≡◌, ℕ, ◌+◌, ◌-◌, ◌*◌, ◌/◌, ◌%◌, ◌<◌, ◌≤◌, Bool, true, false, eqb, List, [], ◌++◌, length, get_or, take, drop, sym, refl, ap, ◌∙◌, ap₂, arith}
+use Rattle.std.specs.Simd.{first_chunks}
+use Rattle.std.specs.declared.ops.Range.{Range}
+use Rattle.std.proofs.lemmas.List.{length-take-le, length-drop, get_or-take, get_or-drop}
 use Rattle.meaning.specs.Text.{pick}
-use Rattle.meaning.specs.Lines.{Word, Placed, natural, place_words, set_line}
+use Rattle.meaning.specs.Lines.{Word, natural, place_words, set_line}
 use Rattle.wire.specs.Bytes.{two, row_bytes}
-use Rattle.words.specs.Slots.{wide_by}
-use Rattle.layout.specs.Rows.{letters_in, line_words, widths_in, line_bytes, shares, LineFits}
-use Rattle.layout.specs.declared.line.Line.{Line}
+use Rattle.words.specs.Slots.{slot_word, word_in, wide_by}
+use Rattle.words.specs.declared.slots.Word as Slot
+use Rattle.words.proofs.Places.{slot_word_at}
+use Rattle.layout.specs.Rows.{letters_in, shares, WordFits}
+use Rattle.layout.specs.Paragraphs.{line_words, line_widths, is_last, line_row, line_bytes, Within, SlotsOf}
 use Rattle.layout.specs.declared.line.Gaps.{Gaps}
-use Rattle.layout.specs.declared.sheet.Sheet.{Sheet}
+use Rattle.layout.specs.declared.paragraph.BrokenParagraph.{BrokenParagraph}
 use Rattle.layout.proofs.Placing.{words_bytes, length_letters_bytes, length_place_words}
-use Rattle.layout.proofs.Lining.{length_words_from, widths_le, natural_from}
+use Rattle.layout.proofs.Lining.{EachFits, length_words_from, widths_le, natural_from}
+use Rattle.layout.proofs.LineSteps.{how_many, letters_there}
 
 set_line_by :
     (wide : ℕ → ℕ) (ws : List Word) (b : Bool) (g h : Gaps) →
@@ -34,39 +40,76 @@ length_set_line wide w ws is_last =
     let g : Gaps = shares (pick is_last 0 (w - natural wide ws)) (length ws - 1) in
     ap length (set_line_shares wide w ws is_last g refl) ∙ length_place_words wide 0 ws g.each g.extra
 
-pub length_line_bytes : (work : List ℕ) (s : Sheet) (l : Line) → length (line_bytes work s l) ≡ 2 + 5 * letters_in (line_words work s l)
-length_line_bytes work s l =
-    let placed : List Placed = set_line (wide_by s.widths) s.width (line_words work s l) l.last in
-    omega (arith, length_letters_bytes placed, length_set_line (wide_by s.widths) s.width (line_words work s l) l.last)
+pub length_line_bytes : (p : BrokenParagraph) (line : Range ℕ) → length (line_bytes p line) ≡ 2 + 5 * letters_in (line_words p line)
+length_line_bytes p line =
+    omega (arith, length_letters_bytes (line_row p line), length_set_line (wide_by p.sheet.now.widths) p.sheet.now.width (line_words p line) (is_last p line))
 
-module _ (work : List ℕ) (s : Sheet) (l : Line) (fits : LineFits work s l) where
-  pub widths_in_le : widths_in work s l ≤ 255 * 4096
-  widths_in_le = omega (arith, widths_le s.widths work s.bulk l.first l.words fits.each, fits.letters)
+-- the word of one of a line's slots
+pub word_here :
+    {p : BrokenParagraph} {line : Range ℕ} {slots : List (List ℕ)} {i : ℕ} {v : Slot.Word} →
+    SlotsOf p line slots → Within p line → i < length slots → v ≡ slot_word (get_or slots i []) →
+    (line.start + i < line.end) × (v ≡ word_in p.slots.now (line.start + i)) × WordFits p.sheet.now.widths p.atoms.now v
+word_here {p} {line} {slots} {i} {v} s within l e =
+    let value : v ≡ word_in p.slots.now (line.start + i) = e ∙ s.word i [] (omega (arith, s.as_many)) in
+    let fits = p.lines.each (line.start + i) (omega (arith, s.as_many, within, how_many p.sheet.now p.atoms.now p.slots.now p.lines)) in
+    (omega (arith, s.as_many), value, rw value fits)
 
-  pub natural_line : natural (wide_by s.widths) (line_words work s l) ≡ widths_in work s l + (l.words - 1) * wide_by s.widths 32
-  natural_line = natural_from s.widths work s.bulk l.first l.words fits.each
+module _ (p : BrokenParagraph) (line : Range ℕ) (within : Within p line) where
+  abbrev gaps : ℕ
+  gaps = line.end - line.start - 1
+
+  each_fits : EachFits p.sheet.now.widths p.atoms.now p.slots.now line.start (line.end - line.start)
+  each_fits k l m = p.lines.each k (omega (arith, how_many p.sheet.now p.atoms.now p.slots.now p.lines))
+
+  -- the slots of its words, cut out of all
+  pub slots_cut :
+      (chunks : List (List ℕ)) → chunks ≡ first_chunks 8 (length p.slots.now / 8) p.slots.now → length chunks ≡ length p.slots.now / 8 →
+      SlotsOf p line (take (line.end - line.start) (drop line.start chunks))
+  slots_cut chunks e many =
+      record {
+        as_many = length-take-le (line.end - line.start) (drop line.start chunks) (omega (arith, length-drop line.start chunks, many, within));
+        word = λ k d l.
+            ap slot_word
+            (get_or-take (line.end - line.start) (drop line.start chunks) k d l ∙ get_or-drop line.start chunks k d ∙ ap (λ (cs : List (List ℕ)). get_or cs (line.start + k) d) e)
+            ∙ slot_word_at p.slots.now d (length p.slots.now / 8) (line.start + k) (omega (arith, within));
+      }
+
+  pub letters_few : letters_in (line_words p line) ≤ 4096
+  letters_few = letters_there p.sheet.now p.atoms.now p.slots.now p.lines line.start line.end within.1
+
+  pub line_bytes_few : length (line_bytes p line) ≤ 20482
+  line_bytes_few = omega (arith, length_line_bytes p line, letters_few)
+
+  pub words_few : line.end - line.start ≤ 4096
+  words_few = omega (arith, how_many p.sheet.now p.atoms.now p.slots.now p.lines, p.lines.few)
+
+  pub widths_le_line : line_widths p line ≤ 255 * 4096
+  widths_le_line = omega (arith, widths_le p.sheet.now.widths p.atoms.now p.slots.now line.start (line.end - line.start) each_fits, letters_few)
+
+  natural_line : natural (wide_by p.sheet.now.widths) (line_words p line) ≡ line_widths p line + gaps * wide_by p.sheet.now.widths 32
+  natural_line = natural_from p.sheet.now.widths p.atoms.now p.slots.now line.start (line.end - line.start) each_fits
 
   -- what a line's words are, with gaps of what room there is
   pub line_set :
-      (width room : ℕ) (g : Gaps) → width ≡ widths_in work s l →
-      room ≡ pick l.last 0 (s.width - (width + (l.words - 1) * wide_by s.widths 32)) → g ≡ shares room (l.words - 1) →
-      set_line (wide_by s.widths) s.width (line_words work s l) l.last
-      ≡ place_words (wide_by s.widths) 0 (line_words work s l) g.each g.extra
+      (width room : ℕ) (g : Gaps) → width ≡ line_widths p line →
+      room ≡ pick (is_last p line) 0 (p.sheet.now.width - (width + gaps * wide_by p.sheet.now.widths 32)) → g ≡ shares room gaps →
+      line_row p line ≡ place_words (wide_by p.sheet.now.widths) 0 (line_words p line) g.each g.extra
   line_set width room g e f is =
-      let wide : ℕ → ℕ = wide_by s.widths in
-      let natural_is : width + (l.words - 1) * wide 32 ≡ natural wide (line_words work s l) = ap (λ (n : ℕ). n + (l.words - 1) * wide 32) e ∙ sym natural_line in
-      let room_is : room ≡ pick l.last 0 (s.width - natural wide (line_words work s l)) = f ∙ ap (λ (n : ℕ). pick l.last 0 (s.width - n)) natural_is in
-      set_line_shares wide s.width (line_words work s l) l.last g
-      (is ∙ ap₂ (λ (m n : ℕ). shares m (n - 1)) room_is (sym (length_words_from work s.bulk l.first l.words)))
+      let wide : ℕ → ℕ = wide_by p.sheet.now.widths in
+      let natural_is : width + gaps * wide 32 ≡ natural wide (line_words p line) = ap (λ (n : ℕ). n + gaps * wide 32) e ∙ sym natural_line in
+      let room_is : room ≡ pick (is_last p line) 0 (p.sheet.now.width - natural wide (line_words p line)) =
+      f ∙ ap (λ (n : ℕ). pick (is_last p line) 0 (p.sheet.now.width - n)) natural_is
+      in
+      set_line_shares wide p.sheet.now.width (line_words p line) (is_last p line) g
+      (is ∙ ap₂ (λ (m n : ℕ). shares m (n - 1)) room_is (sym (length_words_from p.atoms.now p.slots.now line.start (line.end - line.start))))
 
   -- its bytes: first how many letters there are
   pub line_bytes_set :
-      (letters : ℕ) (g : Gaps) → letters ≡ letters_in (line_words work s l) →
-      set_line (wide_by s.widths) s.width (line_words work s l) l.last
-      ≡ place_words (wide_by s.widths) 0 (line_words work s l) g.each g.extra →
-      line_bytes work s l ≡ two letters ++ words_bytes (wide_by s.widths) 0 (line_words work s l) g.each g.extra
+      (letters : ℕ) (g : Gaps) → letters ≡ letters_in (line_words p line) →
+      line_row p line ≡ place_words (wide_by p.sheet.now.widths) 0 (line_words p line) g.each g.extra →
+      line_bytes p line ≡ two letters ++ words_bytes (wide_by p.sheet.now.widths) 0 (line_words p line) g.each g.extra
   line_bytes_set letters g e f =
-      let wide : ℕ → ℕ = wide_by s.widths in
-      let ws : List Word = line_words work s l in
+      let wide : ℕ → ℕ = wide_by p.sheet.now.widths in
+      let ws : List Word = line_words p line in
       ap row_bytes f
       ∙ ap (λ (n : ℕ). two n ++ words_bytes wide 0 ws g.each g.extra) (length_place_words wide 0 ws g.each g.extra ∙ sym e)

@@ -40,12 +40,12 @@ split_letters_few (foot f ∷ xs) w = omega (arith, split_letters_few xs (record
 
 -- words that are those of the slots, one by one
 pub words_same :
-    (work : List ℕ) (bulk n first : ℕ) (ws : List Word) → length ws ≡ n → ((k : ℕ) → k < n → get_or ws k nothing_yet ≡ word_of work bulk (first + k)) →
-    ws ≡ words_from work bulk first n
+    (atoms slots : List ℕ) (n first : ℕ) (ws : List Word) → length ws ≡ n → ((k : ℕ) → k < n → get_or ws k nothing_yet ≡ word_of atoms slots (first + k)) →
+    ws ≡ words_from atoms slots first n
 unfolding words_from
-words_same work bulk zero first [] l each = refl
-words_same work bulk zero first (w ∷ ws) l each = absurd (omega arith)
-words_same work bulk (suc n) first [] l each = absurd (omega arith)
-words_same work bulk (suc n) first (w ∷ ws) l each =
-    ap₂ (λ (v : Word) (vs : List Word). v ∷ vs) (each 0 (omega arith) ∙ ap (word_of work bulk) (add-zero first))
-    (words_same work bulk n (first + 1) ws (omega arith) (λ k h. each (suc k) (omega arith) ∙ ap (word_of work bulk) (omega arith)))
+words_same atoms slots zero first [] l each = refl
+words_same atoms slots zero first (w ∷ ws) l each = absurd (omega arith)
+words_same atoms slots (suc n) first [] l each = absurd (omega arith)
+words_same atoms slots (suc n) first (w ∷ ws) l each =
+    ap₂ (λ (v : Word) (vs : List Word). v ∷ vs) (each 0 (omega arith) ∙ ap (word_of atoms slots) (add-zero first))
+    (words_same atoms slots n (first + 1) ws (omega arith) (λ k h. each (suc k) (omega arith) ∙ ap (word_of atoms slots) (omega arith)))

@@ -1,134 +1,124 @@
 -- Rows that are passed over, and rows that are written.
-use Rattle.std.proofs.Common.{◌≡◌, ℕ, zero, suc, ◌+◌, ◌-◌, ◌<◌, ◌≤◌, Bool, eqb, List, [], ◌∷◌, length, take, drop, sym, refl, ap, ◌∙◌, ap₂, arith}
-use Rattle.std.proofs.lemmas.List.{length-append, length-drop, take-append-drop}
-use Rattle.std.proofs.lemmas.Bool.Decides.{nat_tests}
-use Rattle.meaning.specs.Lines.{Word, Placed, set_line}
-use Rattle.meaning.specs.Calls.{letters_of}
+use Rattle.std.proofs.Common.{◌≡◌, ℕ, zero, suc, ◌+◌, ◌-◌, ◌<◌, ◌≤◌, List, [], ◌∷◌, ◌++◌, length, take, drop, sym, refl, ap, ◌∙◌, ap₂, arith}
+use Rattle.std.proofs.lemmas.List.{append-nil, append_assoc, length-append, take-append-drop}
+use Rattle.meaning.specs.Lines.{Placed}
 use Rattle.wire.specs.Bytes.{row_bytes, rows_bytes}
-use Rattle.words.specs.Slots.{wide_by}
-use Rattle.layout.specs.Rows.{words_from, letters_in, line_row, LineFits}
-use Rattle.layout.specs.Sheets.{lines_by, slot_words, Broken}
-use Rattle.layout.specs.Finishes.{rows_left, finish, finish_at}
-use Rattle.layout.specs.declared.rows.Rows.{Rows}
-use Rattle.layout.specs.declared.sheet.Sheet.{Sheet}
+use Rattle.layout.specs.Finishes.{rows_left, finish, finish_at, Takes, TakesAll}
+use Rattle.layout.specs.declared.rows.RowWriter.{RowWriter}
 use Rattle.layout.proofs.Writing.{written, written_more}
-use Rattle.layout.proofs.LineSteps.{size_at, within_words, lines_step, lines_none, drop_words, take_words, letters_drop, letters_take}
 
--- a row that is passed over
-pub passed_over : (r : Rows) (x : List Placed) (more : List (List Placed)) → 0 < r.skip →
-    rows_left (record { skip = r.skip - 1; left = r.left; end = r.end }) more ≡ rows_left r (x ∷ more)
-passed_over r x more l = go r.skip l
-  where
-    go : (k : ℕ) → 0 < k → take r.left (drop (k - 1) more) ≡ take r.left (drop k (x ∷ more))
-    go zero h = absurd (omega arith)
-    go (suc k) h = let e : suc k - 1 ≡ k = omega arith in ap (λ j. take r.left (drop j more)) e
+-- what is written of rows, after so many, and where
+abbrev bytes_of : ℕ → ℕ → List (List Placed) → List ℕ
+bytes_of skip left ls = rows_bytes (take left (drop skip ls))
 
-pub finish_passed : (r : Rows) (x : List Placed) (more : List (List Placed)) (out : List ℕ) → 0 < r.skip →
-    finish (record { skip = r.skip - 1; left = r.left; end = r.end }) more out ≡ finish r (x ∷ more) out
-unfolding finish
-finish_passed r x more out l = ap (λ (xs : List (List Placed)). written r.end (rows_bytes xs) out) (passed_over r x more l)
+module _ (w v : RowWriter) (x : List Placed) (lent : v.out.ghost_name ≡ w.out.ghost_name) where
+  -- a row that is passed over
+  module _ (some : 0 < w.skip) (out : v.out.now ≡ w.out.now) (skip : v.skip ≡ w.skip - 1) (left : v.left ≡ w.left) (end : v.end ≡ w.end) where
+    one_less : (more : List (List Placed)) → rows_left v more ≡ rows_left w (x ∷ more)
+    one_less more = ap₂ (λ n k. take n (drop k more)) left skip ∙ go w.skip some
+      where
+        go : (k : ℕ) → 0 < k → take w.left (drop (k - 1) more) ≡ take w.left (drop k (x ∷ more))
+        go zero h = absurd (omega arith)
+        go (suc k) h = let e : suc k - 1 ≡ k = omega arith in ap (λ j. take w.left (drop j more)) e
 
-pub finish_passed_at : (r : Rows) (x : List Placed) (more : List (List Placed)) → 0 < r.skip →
-    finish_at (record { skip = r.skip - 1; left = r.left; end = r.end }) more ≡ finish_at r (x ∷ more)
-unfolding finish_at
-finish_passed_at r x more l = ap (λ (xs : List (List Placed)). r.end + length (rows_bytes xs)) (passed_over r x more l)
+    pub passes : TakesAll w v (x ∷ [])
+    unfolding finish finish_at
+    passes =
+        record {
+          lent = lent;
+          bytes = λ more.
+              ap₂ (λ (n : ℕ) (o : List ℕ). written n (rows_bytes (rows_left v more)) o) end out
+              ∙ ap (λ (xs : List (List Placed)). written w.end (rows_bytes xs) w.out.now) (one_less more);
+          end = λ more. ap₂ (λ (n : ℕ) (xs : List (List Placed)). n + length (rows_bytes xs)) end (one_less more);
+        }
 
--- a row that is written
-pub first_left : (r : Rows) (x : List Placed) (more : List (List Placed)) → r.skip ≡ 0 → 0 < r.left → rows_left r (x ∷ more) ≡ x ∷ take (r.left - 1) more
-first_left r x more e l = ap (λ k. take r.left (drop k (x ∷ more))) e ∙ go r.left l
-  where
-    go : (n : ℕ) → 0 < n → take n (x ∷ more) ≡ x ∷ take (n - 1) more
-    go zero h = absurd (omega arith)
-    go (suc n) h = let f : suc n - 1 ≡ n = omega arith in ap (λ j. x ∷ take j more) (sym f)
+  -- a row that is written
+  module _
+      (none : w.skip ≡ 0) (some : 0 < w.left) (fits : w.end + length (row_bytes x) ≤ length w.out.now)
+      (out : v.out.now ≡ written w.end (row_bytes x) w.out.now) (skip : v.skip ≡ w.skip) (left : v.left ≡ w.left - 1) (end : v.end ≡ w.end + length (row_bytes x))
+    where
+      abbrev behind : List (List Placed) → List (List Placed)
+      behind more = take (w.left - 1) more
+
+      then_left : (more : List (List Placed)) → rows_left v more ≡ behind more
+      then_left more = ap₂ (λ n k. take n (drop k more)) left (skip ∙ none)
+
+      first_left : (more : List (List Placed)) → x ∷ behind more ≡ rows_left w (x ∷ more)
+      first_left more = sym (ap (λ k. take w.left (drop k (x ∷ more))) none ∙ go w.left some)
+        where
+          go : (n : ℕ) → 0 < n → take n (x ∷ more) ≡ x ∷ take (n - 1) more
+          go zero h = absurd (omega arith)
+          go (suc n) h = let f : suc n - 1 ≡ n = omega arith in ap (λ j. x ∷ take j more) (sym f)
+
+      pub writes : TakesAll w v (x ∷ [])
+      unfolding finish finish_at rows_bytes
+      writes =
+          record {
+            lent = lent;
+            bytes = λ more.
+                ap₂ (λ (n : ℕ) (o : List ℕ). written n (rows_bytes (rows_left v more)) o) end out
+                ∙ ap (λ (xs : List (List Placed)). written (w.end + length (row_bytes x)) (rows_bytes xs) (written w.end (row_bytes x) w.out.now)) (then_left more)
+                ∙ written_more w.out.now w.end (row_bytes x) (rows_bytes (behind more)) fits
+                ∙ ap (λ (xs : List (List Placed)). written w.end (rows_bytes xs) w.out.now) (first_left more);
+            end = λ more.
+                ap₂ (λ (n : ℕ) (xs : List (List Placed)). n + length (rows_bytes xs)) end (then_left more)
+                ∙ omega (arith, length-append (row_bytes x) (rows_bytes (behind more)))
+                ∙ ap (λ (xs : List (List Placed)). w.end + length (rows_bytes xs)) (first_left more);
+          }
 
 -- nothing is wanted any more
-pub none_left : (r : Rows) (xs : List (List Placed)) → r.left ≡ 0 → rows_left r xs ≡ []
-none_left r xs e = ap (λ n. take n (drop r.skip xs)) e
+none_left : (w : RowWriter) (xs ys : List (List Placed)) → w.left ≡ 0 → rows_left w xs ≡ rows_left w ys
+none_left w xs ys e = ap (λ n. take n (drop w.skip xs)) e ∙ sym (ap (λ n. take n (drop w.skip ys)) e)
 
-module _ (r : Rows) (x : List Placed) (out : List ℕ) (none : r.skip ≡ 0) (some : 0 < r.left) (fits : r.end + length (row_bytes x) ≤ length out) where
-  abbrev then_left : Rows
-  then_left = record { skip = 0; left = r.left - 1; end = r.end + length (row_bytes x) }
-
-  pub finish_row : (more : List (List Placed)) → finish then_left more (written r.end (row_bytes x) out) ≡ finish r (x ∷ more) out
-  unfolding finish rows_bytes
-  finish_row more =
-      written_more out r.end (row_bytes x) (rows_bytes (take (r.left - 1) more)) fits
-      ∙ ap (λ (xs : List (List Placed)). written r.end (rows_bytes xs) out) (sym (first_left r x more none some))
-
-  pub finish_row_at : (more : List (List Placed)) → finish_at then_left more ≡ finish_at r (x ∷ more)
-  unfolding finish_at rows_bytes
-  finish_row_at more =
-      omega (arith, length-append (row_bytes x) (rows_bytes (take (r.left - 1) more)), ap (λ (xs : List (List Placed)). length (rows_bytes xs)) (first_left r x more none some))
-
--- the lines of a paragraph that was broken, from word k on
-module _ (s : Sheet) (work : List ℕ) (n : ℕ) (b : Broken s (slot_words s work n) work n) where
-  abbrev pub rows_from : ℕ → List (List Placed)
-  rows_from k = letters_of (lines_by s (drop k (slot_words s work n)))
-
-  words_there : (k j : ℕ) → k + j ≤ n → take j (drop k (slot_words s work n)) ≡ words_from work s.bulk k j
-  words_there k j l =
-      ap (take j) (drop_words work s.bulk 0 n k (omega arith)) ∙ take_words work s.bulk (0 + k) (n - k) j (omega arith)
-      ∙ ap (λ f. words_from work s.bulk f j) (omega arith)
-
-  pub line_fits : (k j : ℕ) (last : Bool) → k < n → j ≡ size_at s work n b k → LineFits work s (record { first = k; words = j; last = last })
-  line_fits k j last l e =
-      let within : k + j ≤ n = omega (arith, within_words s work n b k l) in
-      let few = b.few in
-      let room = b.room in
-      record {
-        few = omega arith;
-        room = omega arith;
-        each = λ i f g. b.each i (omega arith);
-        letters =
-            omega (
-              arith,
-              ap letters_in (words_there k j within),
-              letters_take j (drop k (slot_words s work n)),
-              letters_drop k (slot_words s work n),
-              b.letters,
-            );
-        across = b.across;
-      }
-
-  -- the last line ends with the last word
-  last_line : (k j : ℕ) → k + j ≤ n → eqb (length (drop k (slot_words s work n))) j ≡ eqb (k + j) n
-  last_line k j l =
-      ap (λ m. eqb m j) (length-drop k (slot_words s work n) ∙ ap (λ m. m - k) b.as_many) ∙ grind (arith, nat_tests)
-
-  pub row_there :
-      (k j : ℕ) (last : Bool) → k < n → j ≡ size_at s work n b k → last ≡ eqb (k + j) n →
-      rows_from k ≡ line_row work s (record { first = k; words = j; last = last }) ∷ rows_from (k + j)
-  unfolding letters_of
-  row_there k j last l e f =
-      let within : k + j ≤ n = omega (arith, within_words s work n b k l) in
-      let wide = wide_by s.widths in
-      ap letters_of (lines_step s work n b k l)
-      ∙ ap (λ (i : ℕ). set_line wide s.width (take i (drop k (slot_words s work n))) (eqb (length (drop k (slot_words s work n))) i) ∷ rows_from (k + i)) (sym e)
-      ∙ ap₂ (λ (vs : List Word) (t : Bool). set_line wide s.width vs t ∷ rows_from (k + j)) (words_there k j within) (last_line k j within ∙ sym f)
-
-  pub rows_none : (k : ℕ) → n ≤ k → rows_from k ≡ []
-  unfolding letters_of
-  rows_none k l = ap letters_of (lines_none s work n b k l)
-
-pub finish_done : (r : Rows) (xs ys : List (List Placed)) (out : List ℕ) → r.left ≡ 0 → finish r xs out ≡ finish r ys out
+finish_done : (w : RowWriter) (xs ys : List (List Placed)) → w.left ≡ 0 → finish w xs ≡ finish w ys
 unfolding finish
-finish_done r xs ys out e = ap (λ (zs : List (List Placed)). written r.end (rows_bytes zs) out) (none_left r xs e ∙ sym (none_left r ys e))
+finish_done w xs ys e = ap (λ (zs : List (List Placed)). written w.end (rows_bytes zs) w.out.now) (none_left w xs ys e)
 
-pub finish_done_at : (r : Rows) (xs ys : List (List Placed)) → r.left ≡ 0 → finish_at r xs ≡ finish_at r ys
+finish_done_at : (w : RowWriter) (xs ys : List (List Placed)) → w.left ≡ 0 → finish_at w xs ≡ finish_at w ys
 unfolding finish_at
-finish_done_at r xs ys e = ap (λ (zs : List (List Placed)). r.end + length (rows_bytes zs)) (none_left r xs e ∙ sym (none_left r ys e))
+finish_done_at w xs ys e = ap (λ (zs : List (List Placed)). w.end + length (rows_bytes zs)) (none_left w xs ys e)
 
+-- where the text ends, nothing more is written
 nothing_comes : (n k : ℕ) → ◌≡◌ {A = List (List Placed)} (take n (drop k [])) []
 nothing_comes zero zero = refl
 nothing_comes zero (suc k) = refl
 nothing_comes (suc n) zero = refl
 nothing_comes (suc n) (suc k) = refl
 
--- where the text ends, nothing more is written
-pub finish_end : (r : Rows) (out : List ℕ) → finish r [] out ≡ out
+pub finish_end : (w : RowWriter) → finish w [] ≡ w.out.now
 unfolding finish rows_bytes
-finish_end r out = ap (λ (zs : List (List Placed)). written r.end (rows_bytes zs) out) (nothing_comes r.left r.skip) ∙ take-append-drop r.end out
+finish_end w = ap (λ (zs : List (List Placed)). written w.end (rows_bytes zs) w.out.now) (nothing_comes w.left w.skip) ∙ take-append-drop w.end w.out.now
 
-pub finish_end_at : (r : Rows) → finish_at r [] ≡ r.end
+pub finish_end_at : (w : RowWriter) → finish_at w [] ≡ w.end
 unfolding finish_at rows_bytes
-finish_end_at r = ap (λ (zs : List (List Placed)). r.end + length (rows_bytes zs)) (nothing_comes r.left r.skip) ∙ omega arith
+finish_end_at w = ap (λ (zs : List (List Placed)). w.end + length (rows_bytes zs)) (nothing_comes w.left w.skip) ∙ omega arith
+
+-- some rows after the others, until all have come, or no more are wanted
+pub takes_none : (w : RowWriter) (all : List (List Placed)) → Takes w w all all
+takes_none w all = record { lent = refl; bytes = λ more. refl; end = λ more. refl }
+
+module _ {a b : RowWriter} {all left : List (List Placed)} (t : Takes a b all left) where
+  pub takes_more : (c : RowWriter) (xs ys : List (List Placed)) → left ≡ xs ++ ys → TakesAll b c xs → Takes a c all ys
+  takes_more c xs ys e u =
+      let both : (more : List (List Placed)) → xs ++ (ys ++ more) ≡ left ++ more = λ more. sym (append_assoc xs ys more) ∙ ap (λ (zs : List (List Placed)). zs ++ more) (sym e) in
+      record {
+        lent = u.lent ∙ t.lent;
+        bytes = λ more. u.bytes (ys ++ more) ∙ (ap (finish b) (both more) ∙ t.bytes more);
+        end = λ more. u.end (ys ++ more) ∙ (ap (finish_at b) (both more) ∙ t.end more);
+      }
+
+  pub takes_done : b.left ≡ 0 → TakesAll a b all
+  takes_done e =
+      record {
+        lent = t.lent;
+        bytes = λ more. finish_done b more (left ++ more) e ∙ t.bytes more;
+        end = λ more. finish_done_at b more (left ++ more) e ∙ t.end more;
+      }
+
+-- what stands there when all have come
+module _ {a b : RowWriter} {all : List (List Placed)} (t : TakesAll a b all) where
+  pub all_taken : b.out.now ≡ finish a all
+  all_taken = sym (finish_end b) ∙ (t.bytes [] ∙ ap (finish a) (append-nil all))
+
+  pub all_taken_at : b.end ≡ finish_at a all
+  all_taken_at = sym (finish_end_at b) ∙ (t.end [] ∙ ap (finish_at a) (append-nil all))

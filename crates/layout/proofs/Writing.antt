@@ -1,16 +1,13 @@
 -- Rows written into a part of another row, one behind the other.
 --   written   a row written from a place on
-use Rattle.std.proofs.Common.{◌≡◌, ℕ, ◌+◌, ◌-◌, ◌≤◌, List, [], ◌++◌, length, take, drop, sym, refl, ap, ◌∙◌, ap₂, zero-add, arith}
+use Rattle.std.proofs.Common.{◌≡◌, ℕ, ◌+◌, ◌-◌, ◌≤◌, List, [], ◌++◌, length, take, drop, sym, ap, ◌∙◌, ap₂, zero-add, arith}
 use borrow.Rule.Slice.PartMut.{put_mid}
-use Rattle.std.proofs.lemmas.List.{append-nil, append_assoc, length-append, length-drop, length-take-le, take-append-drop, take_at, drop_at, drop_all, drop-drop}
+use Rattle.std.proofs.lemmas.List.{append_assoc, length-append, length-drop, length-take-le, take-append-drop, take_at, drop_at, drop-drop}
 use Rattle.wire.specs.Bytes.{over}
 use Rattle.wire.proofs.Overs.{over_part}
 
 abbrev pub written : ℕ → List ℕ → List ℕ → List ℕ
 written at xs out = take at out ++ over xs (drop at out)
-
-pub written_start : (xs out : List ℕ) → written 0 xs out ≡ over xs out
-written_start xs out = refl
 
 pub written_none : (at : ℕ) (out : List ℕ) → written at [] out ≡ out
 written_none at out = take-append-drop at out
@@ -55,22 +52,3 @@ written_more out at xs ys fits =
 
 pub over_more : (xs ys out : List ℕ) → length xs ≤ length out → written (length xs) ys (over xs out) ≡ over (xs ++ ys) out
 over_more xs ys out fits = ap (λ (n : ℕ). written n ys (over xs out)) (sym (zero-add (length xs))) ∙ written_more out 0 xs ys (omega (arith, fits))
-
--- a part that goes to the end, given back
-pub rest_put : (a : ℕ) (xs ys : List ℕ) → put_mid a (length xs - a) xs ys ≡ take a xs ++ ys
-rest_put a xs ys =
-    let nothing_behind : drop (length xs - a) (drop a xs) ≡ [] = drop_all (length xs - a) (drop a xs) (omega (arith, length-drop a xs)) in
-    ap (λ (zs : List ℕ). take a xs ++ (ys ++ zs)) nothing_behind ∙ ap (λ (zs : List ℕ). take a xs ++ zs) (append-nil ys)
-
-module _ (a : ℕ) (xs ys : List ℕ) (l : a ≤ length xs) where
-  front_length : length (take a xs) ≡ a
-  front_length = length-take-le a xs l
-
-  pub rest_put_drop : drop a (put_mid a (length xs - a) xs ys) ≡ ys
-  rest_put_drop = ap (drop a) (rest_put a xs ys) ∙ drop_at (take a xs) ys a front_length
-
-  pub rest_put_take : take a (put_mid a (length xs - a) xs ys) ≡ take a xs
-  rest_put_take = ap (take a) (rest_put a xs ys) ∙ take_at (take a xs) ys a front_length
-
-  pub rest_put_length : length (put_mid a (length xs - a) xs ys) ≡ a + length ys
-  rest_put_length = ap length (rest_put a xs ys) ∙ omega (arith, length-append (take a xs) ys, front_length)

@@ -1,15 +1,15 @@
 -- Rows of a page, looked for by a walk over the book.
 --   first_wanted, all_wanted   how far the walk has to go for the first row, and for all of them
---   place_before               the paragraph from which the rows can be written, as far as it is known before paragraph k
---   PlaceIn                   a place before a paragraph of the book
---   FoundBy                   what the walk found
-use Rattle.std.specs.Prelude.{◌≡◌, ℕ, ◌+◌, ◌≤◌, List, length, slice_index}
-use Rattle.meaning.specs.Text.{pick}
-use Rattle.store.specs.Kept.{table_sum}
-use Rattle.layout.specs.Walks.{nothing_walked, has_reached, sought, Small}
+--   Stands                     a place among lines: those behind it are the lines of the paragraphs from there on
+--   FoundBy                    what the walk found
+use Rattle.std.specs.Prelude.{◌≡◌, ◌+◌, ◌≤◌, List, drop}
+use Rattle.meaning.specs.Lines.{Line}
+use Rattle.store.specs.Paragraphs.{paragraphs_left}
+use Rattle.layout.specs.Walks.{nothing_walked, sought, Small}
 use Rattle.layout.specs.Fills.{heights}
 use Rattle.layout.specs.Sheets.{looks_of}
-use Rattle.layout.specs.Books.{sheet_at, book_lines, all_lines_in}
+use Rattle.layout.specs.Books.{lines_in}
+use Rattle.layout.specs.declared.sheet.Sheet.{Sheet}
 use Rattle.layout.specs.declared.walk.Goal.{Goal}
 use Rattle.layout.specs.declared.book.Wanted.{Wanted}
 use Rattle.layout.specs.declared.book.Place.{Place}
@@ -21,20 +21,12 @@ first_wanted q = record { page = q.page; lines = q.row + 1 }
 abbrev pub all_wanted : Wanted → Goal
 all_wanted q = record { page = q.page; lines = q.row + q.count }
 
-abbrev pub nothing_found : Found
-nothing_found = record { walk = nothing_walked; from = record { paragraph = 0; at = 0; lines = 0 } }
+pub record Stands (s : Sheet) (all : List Line) (p : Place) : Type 0 where
+  pub lines : drop p.lines all ≡ lines_in s (paragraphs_left p.paragraphs)
 
-abbrev pub place_before : Found → ℕ → ℕ → Wanted → Place
-place_before f k at q = pick (has_reached (first_wanted q) f.walk) f.from (record { paragraph = k; at = at; lines = f.walk.before + f.walk.lines })
-
-pub record PlaceIn (ts rs : List ℕ) (p : Place) : Type 0 where
-  pub few : p.paragraph ≤ slice_index rs 4
-  pub begins : p.at ≡ table_sum 64 p.paragraph rs
-  pub lines : p.lines ≡ length (book_lines ts rs 0 p.paragraph)
-
-pub record FoundBy (ts rs : List ℕ) (q : Wanted) (f : Found) : Type 0 where
-  pub walk : f.walk ≡ sought (slice_index rs 11) (all_wanted q) (heights (looks_of (sheet_at rs)) (all_lines_in ts rs)) nothing_walked
-  pub from : PlaceIn ts rs f.from
-  -- no row that is wanted stands before that paragraph
+pub record FoundBy (s : Sheet) (all : List Line) (q : Wanted) (f : Found) : Type 0 where
+  pub walk : f.walk ≡ sought s.rows (all_wanted q) (heights (looks_of s) all) nothing_walked
+  pub from : Stands s all f.from
+  -- no row that is wanted stands before that place
   pub near : f.walk.pages ≡ q.page + 1 → f.from.lines ≤ f.walk.before + q.row
   pub small : Small f.walk

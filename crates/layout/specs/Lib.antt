@@ -1,8 +1,10 @@
 pub mod Rows
 pub mod Sheets
+pub mod Paragraphs
 pub mod Walks
 pub mod Fills
 pub mod Finishes
 pub mod Books
 pub mod Found
 pub mod Asked
+pub mod Keeping

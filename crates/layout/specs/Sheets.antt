@@ -1,23 +1,29 @@
 -- Paragraphs as they stand in memory, set by the looks of the book.
 --   looks_of           a sheet's looks, as the meaning has them
+--   SheetFits          looks and a limit by which paragraphs can be set
 --   paragraph_atoms    the atoms of a paragraph's bytes; none where these are no plain tokens, or too many
 --   paragraph_words    its words
 --   paragraph_lines    its lines, which are the best ones
---   slot_words         the words that slots have
---   Broken             slots have a paragraph's words, and lead through its best lines
---   Keeps              what of the working part is as it was
-use Rattle.std.specs.Prelude.{◌≡◌, ℕ, ◌*◌, ◌<◌, ◌≤◌, List, [], length, drop, Some, None, Option}
+--   atoms_of, slots_of   the parts of the working part: the atoms, and n slots behind them
+--   slot_words         the words that those have
+--   InLines            atoms and just the slots of a paragraph's words, which lead through its best lines
+--   Broken             so are those of the working part
+use Rattle.std.specs.Prelude.{◌≡◌, ℕ, ◌+◌, ◌*◌, ◌<◌, ◌≤◌, List, [], length, take, drop, Some, None, Option}
 use Rattle.meaning.specs.Text.{Atom}
 use Rattle.meaning.specs.Lines.{Word, Line, nothing_yet, split, best, set_lines}
 use Rattle.meaning.specs.Pages.{Looks}
 use Rattle.words.specs.Atoms.{plain_within}
-use Rattle.words.specs.Slots.{slot_place, word_in, wide_by}
+use Rattle.words.specs.Slots.{word_in, wide_by}
 use Rattle.linebreak.specs.Slots.{Follows}
-use Rattle.layout.specs.Rows.{words_from, letters_in, WordFits}
+use Rattle.layout.specs.Rows.{words_of, letters_in, WordFits}
 use Rattle.layout.specs.declared.sheet.Sheet.{Sheet}
 
 abbrev pub looks_of : Sheet → Looks
 looks_of s = record { wide = wide_by s.widths; across = s.width; rows = s.rows }
+
+pub record SheetFits (s : Sheet) : Type 0 where
+  pub bulk : s.bulk ≤ 4096
+  pub width : s.width ≤ 1000
 
 abbrev pub atoms_or_none : Option (List Atom) → List Atom
 atoms_or_none None = []
@@ -36,21 +42,27 @@ lines_by s ws = set_lines (wide_by s.widths) s.width ws (best (wide_by s.widths)
 abbrev pub paragraph_lines : Sheet → List ℕ → List Line
 paragraph_lines s bytes = lines_by s (paragraph_words s bytes)
 
--- the words that slots have
+-- what stands in the working part, of which the front has the atoms: the words of the n slots behind them
+abbrev pub atoms_of : Sheet → List ℕ → List ℕ
+atoms_of s work = take s.bulk work
+
+abbrev pub slots_of : Sheet → List ℕ → ℕ → List ℕ
+slots_of s work n = take (8 * n) (drop s.bulk work)
+
 abbrev pub slot_words : Sheet → List ℕ → ℕ → List Word
-slot_words s work n = words_from work s.bulk 0 n
+slot_words s work n = words_of (atoms_of s work) (slots_of s work n)
+
+pub record InLines (s : Sheet) (ws : List Word) (atoms slots : List ℕ) : Type 0 where
+  pub as_many : length slots ≡ 8 * length ws
+  pub few : length ws ≤ 4096
+  pub across : s.width ≤ 1000
+  pub words : ws ≡ words_of atoms slots
+  pub each : (k : ℕ) → k < length ws → WordFits s.widths atoms (word_in slots k)
+  pub letters : letters_in ws ≤ 4096
+  pub follows : Follows (wide_by s.widths) s.width ws slots (length ws)
 
 pub record Broken (s : Sheet) (ws : List Word) (work : List ℕ) (n : ℕ) : Type 0 where
   pub as_many : length ws ≡ n
   pub few : n ≤ 4096
-  pub across : s.width ≤ 1000
-  pub room : slot_place s.bulk n ≤ length work
-  pub words : ws ≡ slot_words s work n
-  pub each : (k : ℕ) → k < n → WordFits s.widths work (word_in work s.bulk k)
-  pub letters : letters_in ws ≤ 4096
-  pub follows : Follows (wide_by s.widths) s.width ws (drop s.bulk work) n
-
--- behind the numbers that a paragraph can need
-pub record Keeps (s : Sheet) (before after : List ℕ) : Type 0 where
-  pub as_long : length after ≡ length before
-  pub behind : drop (9 * s.bulk) after ≡ drop (9 * s.bulk) before
+  pub room : s.bulk + 8 * n ≤ length work
+  pub lines : InLines s ws (atoms_of s work) (slots_of s work n)

@@ -1,246 +1,187 @@
 // The book in memory, set from nothing: how many pages it has, and rows of a page.
-ghost use Rattle.std.specs.Prelude.{◌≡◌, ◌+◌, ◌*◌, ◌^◌, ◌<◌, ◌≤◌, length, drop, is_ok, if◌then◌else◌, Some, None};
+ghost use Rattle.std.specs.Prelude.{◌≡◌, ◌+◌, ◌*◌, ◌≤◌, length, is_ok, if◌then◌else◌};
 ghost use Rattle.meaning.specs.Text.{pick};
 ghost use Rattle.meaning.specs.Calls.{letters_of};
 ghost use Rattle.wire.specs.Bytes.{over};
-ghost use Rattle.store.specs.Kept.{table_sum, is_open};
-ghost use Rattle.layout.specs.Walks.{Small};
-ghost use Rattle.layout.specs.Sheets.{paragraph_words, Broken};
-ghost use Rattle.layout.specs.Finishes.{finish, finish_at, HasRoom};
-ghost use Rattle.layout.specs.Books.{book_at, bytes_at, lines_after, cleaned, worked, Opened, InBook, SameBook};
-ghost use Rattle.layout.specs.Found.{first_wanted, all_wanted, nothing_found, place_before, PlaceIn, FoundBy};
-ghost use Rattle.layout.specs.Asked.{counting_pages, shown, showing, shown_bytes};
+ghost use Rattle.words.specs.Atoms.{cleared};
+ghost use Rattle.store.specs.Kept.{is_open};
+ghost use Rattle.store.specs.Paragraphs.{paragraphs_left};
+ghost use Rattle.layout.specs.Sheets.{SheetFits};
+ghost use Rattle.layout.specs.Finishes.{TakesAll};
+ghost use Rattle.layout.specs.Books.{sheet_at, paragraphs_at, lines_in, pages_by, worked, InFront};
+ghost use Rattle.layout.specs.Found.{first_wanted, all_wanted, FoundBy};
+ghost use Rattle.layout.specs.Asked.{counting_pages, shown_of, showing, shown_bytes, bytes_of_rows};
 
-use crate::paragraph::break_paragraph;
-use crate::rows::{Rows, take_lines, walk_lines};
+use crate::rows::RowWriter;
 use crate::sheet::Sheet;
 use crate::walk::{Goal, Walk};
-use store::{look, widths};
+use store::{Kept, Paragraphs, look, widths};
 use wire::{Refusal, write_rows};
-use words::clear;
-
-// An open book: its looks, how many paragraphs it has, and where its working part begins.
-#[derive(Clone, Copy)]
-struct Book {
-    sheet: Sheet,
-    paragraphs: usize,
-    start: usize,
-}
-
-impl Book {
-    // None where memory is no open book.
-    fn of(tokens: &[u8], rest: &[u64]) -> Option<Book>
-        ensures { result ≡ pick (is_open (length tokens.now) rest.now) (Some (book_at rest.now)) None }
-    {
-        let Some(kept) = look(tokens, rest) else {
-            return None;
-        };
-        let sheet = Sheet {
-            widths: widths(rest),
-            width: kept.width,
-            rows: kept.rows,
-            bulk: kept.limits.bulk as usize,
-        };
-        Some(Book {
-            sheet,
-            paragraphs: kept.paragraphs,
-            start: 64 + 4 * kept.limits.paragraphs as usize,
-        })
-    }
-
-    // What a paragraph can need of the working part is 0 again.
-    fn clean(&self, rest: &mut [u64])
-        requires { self.now.start + 9 * self.now.sheet.bulk ≤ length rest.old }
-        ensures { rest.new ≡ cleaned self.now rest.old }
-    {
-        let start = self.start;
-        clear(&mut rest[start..], 9 * self.sheet.bulk);
-    }
-}
-
-// A paragraph that was broken: how many words it has, and where its bytes end.
-#[derive(Clone, Copy)]
-struct Paragraph {
-    words: usize,
-    end: usize,
-}
-
-// Paragraph k, whose bytes begin at this place, in the working part.
-fn break_at(tokens: &[u8], rest: &mut [u64], book: &Book, k: usize, at: usize) -> Paragraph
-    requires { InBook tokens.now rest.old book.now k at }
-    ensures lines { Broken book.now.sheet (paragraph_words book.now.sheet (bytes_at tokens.now rest.old k)) (drop book.now.start rest.new) result.words }
-    ensures end { result.end ≡ table_sum 64 (k + 1) rest.old }
-    ensures same { SameBook book.now rest.old rest.new }
-{
-    let end = at + rest[64 + 4 * k] as usize;
-    let start = book.start;
-    let words = break_paragraph(&tokens[at..end], &mut rest[start..], &book.sheet);
-    Paragraph { words, end }
-}
 
 // Of a page, so many rows from one on.
 #[derive(Clone, Copy)]
 struct Wanted {
-    page: usize,
-    row: usize,
-    count: usize,
+    page: u32,
+    row: u16,
+    count: u8,
 }
 
 impl Wanted {
     fn first(self) -> Goal
-        requires { self.row ≤ 65535 }
         ensures { result ≡ first_wanted self }
     {
         Goal {
-            page: self.page,
-            lines: self.row + 1,
+            page: self.page as usize,
+            lines: self.row as usize + 1,
         }
     }
 
     fn all(self) -> Goal
-        requires { (self.row ≤ 65535) × (self.count ≤ 255) }
         ensures { result ≡ all_wanted self }
     {
         Goal {
-            page: self.page,
-            lines: self.row + self.count,
+            page: self.page as usize,
+            lines: self.row as usize + self.count as usize,
         }
     }
 }
 
-// Before a paragraph: where its bytes begin, and how many lines there are before it.
+// The paragraphs from a place on, and how many lines there are before it.
 #[derive(Clone, Copy)]
-struct Place {
-    paragraph: usize,
-    at: usize,
+struct Place<'t, 'e> {
+    paragraphs: Paragraphs<'t, 'e>,
     lines: usize,
 }
 
-// Where the walk ended, and a paragraph from which the rows can be written.
+// Where the walk ended, and a place from which the rows can be written.
 #[derive(Clone, Copy)]
-struct Found {
+struct Found<'t, 'e> {
     walk: Walk,
-    from: Place,
+    from: Place<'t, 'e>,
 }
 
-impl Found {
-    fn nothing() -> Found
-        ensures { result ≡ nothing_found }
+// An open book: its looks, its paragraphs, and the working part, in which one paragraph after another is broken into lines.
+#[derive(Drop)]
+pub(crate) struct Book<'t, 'e, 'w> {
+    pub(crate) sheet: Sheet,
+    paragraphs: Paragraphs<'t, 'e>,
+    pub(crate) work: &'w mut [u64],
+    ghost fits: { SheetFits sheet },
+    ghost room: { 9 * sheet.bulk ≤ length work.now },
+    ghost few: { length (paragraphs_left paragraphs) ≤ 4096 },
+}
+
+impl<'t, 'e, 'w> Book<'t, 'e, 'w> {
+    ghost use Rattle.layout.specs.Keeping.{Keeps};
+
+    // The header and the entries are in front of the working part.
+    fn of(kept: &Kept, tokens: &'t [u8], front: &'e [u64], work: &'w mut [u64]) -> Book<'t, 'e, 'w>
+        requires { (InFront tokens.now front.now kept.now) × (9 * kept.now.limits.bulk ≤ length work.old) }
+        ensures sheet { result.sheet ≡ sheet_at front.now }
+        ensures work { result.work.now ≡ work.old }
+        ensures lent { result.work.ghost_name ≡ work.entry.ghost_name }
+        ensures paragraphs { paragraphs_left result.paragraphs ≡ paragraphs_at tokens.now front.now }
     {
-        Found {
-            walk: Walk::new(),
-            from: Place {
-                paragraph: 0,
-                at: 0,
-                lines: 0,
-            },
+        let (header, numbers) = front.split_first_chunk::<64>().unwrap();
+        let (entries, _) = numbers.as_chunks::<4>();
+        let sheet = Sheet {
+            widths: widths(header),
+            width: kept.width,
+            rows: kept.rows,
+            bulk: kept.limits.bulk as usize,
+        };
+        Book {
+            sheet,
+            paragraphs: Paragraphs::new(tokens, &entries[..kept.paragraphs]),
+            work,
         }
     }
 
-    // Before paragraph k, as long as no row that is wanted stands before it.
-    fn before(self, k: usize, at: usize, wanted: Wanted) -> Place
-        requires { (wanted.row ≤ 65535) × (Small self.walk) }
-        ensures { result ≡ place_before self k at wanted }
+    // What a paragraph can need of the working part is 0 again.
+    fn clean(&mut self)
+        ensures zeros { self.new.work.now ≡ cleared (9 * self.old.sheet.bulk) self.old.work.now }
+        ensures same { Keeps self.old self.new }
     {
-        if self.walk.has_reached(wanted.first()) {
-            return self.from;
+        self.work[..9 * self.sheet.bulk].fill(0);
+    }
+
+    // The walk over one paragraph after another, until all rows that are wanted are there or their page is done with.
+    fn seek(&mut self, wanted: Wanted) -> Found<'t, 'e>
+        ensures found { FoundBy self.old.sheet (lines_in self.old.sheet (paragraphs_left self.old.paragraphs)) wanted result }
+        ensures same { Keeps self.old self.new }
+    {
+        let goal = wanted.all();
+        let mut walk = Walk::new();
+        let mut behind = self.paragraphs;
+        let mut from = Place {
+            paragraphs: behind,
+            lines: 0,
+        };
+        // No `for`: the iterator itself is remembered before each paragraph.
+        while !walk.has_reached(goal) {
+            // No row that is wanted stands before the paragraph.
+            if !walk.has_reached(wanted.first()) {
+                from = Place {
+                    paragraphs: behind,
+                    lines: walk.before + walk.lines,
+                };
+            }
+            let Some(bytes) = behind.next() else {
+                return Found { walk, from };
+            };
+            walk = self.walk_paragraph(bytes, goal, walk);
         }
-        Place {
-            paragraph: k,
-            at,
-            lines: self.walk.before + self.walk.lines,
+        Found { walk, from }
+    }
+
+    // The lines of one paragraph after another, as far as rows are wanted.
+    fn write(&mut self, from: Paragraphs<'t, 'e>, rows: &mut RowWriter)
+        ensures rows { TakesAll rows.old rows.new (letters_of (lines_in self.old.sheet (paragraphs_left from.entry))) }
+        ensures same { Keeps self.old self.new }
+    {
+        for bytes in from {
+            if rows.left == 0 {
+                break;
+            }
+            self.take_paragraph(bytes, rows);
         }
+    }
+
+    // Rows of a page written behind their count, where they are there.
+    fn show(&mut self, wanted: Wanted, out: &mut [u8]) -> Result<usize, Refusal>
+        requires { 2 + 20482 * wanted.count ≤ length out.old }
+        ensures value { result ≡ shown_of (pages_by self.old.sheet (paragraphs_left self.old.paragraphs)) wanted.page wanted.row wanted.count }
+        ensures after { out.new ≡ (if is_ok result then over (bytes_of_rows (pages_by self.old.sheet (paragraphs_left self.old.paragraphs)) wanted.page wanted.row wanted.count) out.old else out.old) }
+        ensures same { Keeps self.old self.new }
+    {
+        let Found { walk, from } = self.seek(wanted);
+        let page = wanted.page as usize;
+        let row = wanted.row as usize;
+        let count = wanted.count as usize;
+        if walk.pages <= page {
+            return Err(Refusal::NoPage(wanted.page));
+        }
+        // The walk went past the page, or the text ended on it.
+        if walk.pages - page > 1 || walk.lines < row + count {
+            return Err(Refusal::NoRows(wanted.row as u32));
+        }
+        write_rows(out, wanted.count);
+        let mut rows = RowWriter {
+            out,
+            skip: walk.before + row - from.lines,
+            left: count,
+            end: 2,
+        };
+        self.write(from.paragraphs, &mut rows);
+        Ok(rows.end)
     }
 }
 
-// The walk over one paragraph after another, until all rows that are wanted are there or their page is done with.
-fn seek(tokens: &[u8], rest: &mut [u64], book: &Book, wanted: Wanted) -> Found
-    requires { (Opened tokens.now rest.old book.now) × ((wanted.row ≤ 65535) × (wanted.count ≤ 255)) }
-    ensures found { FoundBy tokens.now rest.old wanted result }
-    ensures same { SameBook book.now rest.old rest.new }
+// How many numbers stand in front of the working part.
+fn front_len(kept: &Kept) -> usize
+    ensures { result ≡ 64 + 4 * kept.now.limits.paragraphs }
 {
-    let start = book.start;
-    let goal = wanted.all();
-    let mut found = Found::nothing();
-    let mut at = 0;
-    for k in 0..book.paragraphs {
-        if found.walk.has_reached(goal) {
-            return found;
-        }
-        let from = found.before(k, at, wanted);
-        let paragraph = break_at(tokens, rest, book, k, at);
-        let walk = walk_lines(
-            &rest[start..],
-            &book.sheet,
-            paragraph.words,
-            goal,
-            found.walk,
-        );
-        found = Found { walk, from };
-        at = paragraph.end;
-    }
-    found
-}
-
-// Rows are written, one paragraph after another; where they end.
-fn write_from(
-    tokens: &[u8],
-    rest: &mut [u64],
-    book: &Book,
-    from: Place,
-    rows: Rows,
-    out: &mut [u8],
-) -> usize
-    requires { (Opened tokens.now rest.old book.now) × ((PlaceIn tokens.now rest.old from) × (HasRoom out.old rows)) }
-    ensures value { result ≡ finish_at rows (letters_of (lines_after tokens.now rest.old from.paragraph)) }
-    ensures after { out.new ≡ finish rows (letters_of (lines_after tokens.now rest.old from.paragraph)) out.old }
-    ensures same { SameBook book.now rest.old rest.new }
-{
-    let start = book.start;
-    let mut rows = rows;
-    let mut at = from.at;
-    for k in from.paragraph..book.paragraphs {
-        if rows.left == 0 {
-            return rows.end;
-        }
-        let paragraph = break_at(tokens, rest, book, k, at);
-        rows = take_lines(out, &rest[start..], &book.sheet, paragraph.words, rows);
-        at = paragraph.end;
-    }
-    rows.end
-}
-
-// Rows of a page written behind their count, where they are there.
-fn show_wanted(
-    tokens: &[u8],
-    rest: &mut [u64],
-    book: &Book,
-    wanted: Wanted,
-    out: &mut [u8],
-) -> Result<usize, Refusal>
-    requires { (Opened tokens.now rest.old book.now) × ((wanted.page < 2 ^ 32) × ((wanted.row ≤ 65535) × ((wanted.count ≤ 255) × (2 + 20482 * wanted.count ≤ length out.old)))) }
-    ensures value { result ≡ shown tokens.now rest.old wanted.page wanted.row wanted.count }
-    ensures after { out.new ≡ (if is_ok result then over (shown_bytes tokens.now rest.old wanted.page wanted.row wanted.count) out.old else out.old) }
-    ensures same { SameBook book.now rest.old rest.new }
-{
-    let Found { walk, from } = seek(tokens, rest, book, wanted);
-    if walk.pages <= wanted.page {
-        return Err(Refusal::NoPage(wanted.page as u32));
-    }
-    // The walk went past the page, or the text ended on it.
-    if walk.pages - wanted.page > 1 {
-        return Err(Refusal::NoRows(wanted.row as u32));
-    }
-    if walk.lines < wanted.row + wanted.count {
-        return Err(Refusal::NoRows(wanted.row as u32));
-    }
-    write_rows(out, wanted.count as u8);
-    let rows = Rows {
-        skip: walk.before + wanted.row - from.lines,
-        left: wanted.count,
-        end: 2,
-    };
-    Ok(write_from(tokens, rest, book, from, rows, out))
+    64 + 4 * kept.limits.paragraphs as usize
 }
 
 // How many pages there are.
@@ -248,17 +189,17 @@ pub fn count_pages(tokens: &[u8], rest: &mut [u64]) -> Result<u32, Refusal>
     ensures value { result ≡ counting_pages tokens.now rest.old }
     ensures after { rest.new ≡ (if is_ok result then worked rest.old else rest.old) }
 {
-    let Some(book) = Book::of(tokens, rest) else {
-        return Err(Refusal::BadOpening);
-    };
+    let kept = look(tokens, rest).ok_or(Refusal::BadOpening)?;
+    let (front, work) = rest.split_at_mut(front_len(&kept));
+    let mut book = Book::of(&kept, tokens, front, work);
     // No book has this page, so that the walk goes over all lines.
     let none = Wanted {
-        page: usize::MAX,
+        page: u32::MAX,
         row: 0,
         count: 0,
     };
-    let found = seek(tokens, rest, &book, none);
-    book.clean(rest);
+    let found = book.seek(none);
+    book.clean();
     Ok(found.walk.pages as u32)
 }
 
@@ -276,15 +217,10 @@ pub fn show_rows(
     ensures written { out.new ≡ (if is_ok result then over (shown_bytes tokens.now rest.old page row count) out.old else out.old) }
     ensures after { rest.new ≡ pick (is_open (length tokens.now) rest.old) (worked rest.old) rest.old }
 {
-    let Some(book) = Book::of(tokens, rest) else {
-        return Err(Refusal::BadOpening);
-    };
-    let wanted = Wanted {
-        page: page as usize,
-        row: row as usize,
-        count: count as usize,
-    };
-    let shown = show_wanted(tokens, rest, &book, wanted, out);
-    book.clean(rest);
+    let kept = look(tokens, rest).ok_or(Refusal::BadOpening)?;
+    let (front, work) = rest.split_at_mut(front_len(&kept));
+    let mut book = Book::of(&kept, tokens, front, work);
+    let shown = book.show(Wanted { page, row, count }, out);
+    book.clean();
     shown
 }

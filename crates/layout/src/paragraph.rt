@@ -1,25 +1,89 @@
-// A paragraph read, split into words and broken into its best lines.
-ghost use Rattle.std.specs.Prelude.{◌*◌, ◌≤◌, length};
-ghost use Rattle.layout.specs.Sheets.{paragraph_words, Broken, Keeps};
+// A paragraph read, split into words and broken into its best lines, in the working part of its book.
+ghost use Rattle.std.specs.Prelude.{◌≡◌, length, replicate};
+ghost use Rattle.meaning.specs.Calls.{letters_of};
+ghost use Rattle.linebreak.specs.Lines.{lines_of};
+ghost use Rattle.layout.specs.Rows.{words_of};
+ghost use Rattle.layout.specs.Walks.{sought, Small, Grown};
+ghost use Rattle.layout.specs.Sheets.{atoms_of, slots_of, slot_words, paragraph_words, paragraph_lines, InLines, Broken};
 
+use crate::book::Book;
+use crate::rows::RowWriter;
 use crate::sheet::Sheet;
-use linebreak::break_lines;
+use crate::walk::{Goal, Walk};
+use linebreak::{Lines, SLOT, break_lines};
 use words::{read_atoms, split_words};
 
-// How many words there are, each in its slot behind the atoms. A paragraph that can't be read, which no call leaves in a book, has none.
-pub(crate) fn break_paragraph(tokens: &[u8], work: &mut [u64], sheet: &Sheet) -> usize
-    requires { (sheet.now.bulk ≤ 4096) × ((9 * sheet.now.bulk ≤ length work.old) × (sheet.now.width ≤ 1000)) }
-    ensures lines { Broken sheet.now (paragraph_words sheet.now tokens.now) work.new result }
-    ensures same { Keeps sheet.now work.old work.new }
-{
-    let bulk = sheet.bulk;
-    let atoms = read_atoms(tokens, work, bulk).unwrap_or(0);
-    let words = split_words(work, bulk, atoms, &sheet.widths);
-    break_lines(
-        &mut work[bulk..],
-        words,
-        u64::from(sheet.widths[0]),
-        sheet.width as u64,
-    );
-    words
+// A paragraph in its best lines: its atoms, just the slots of its words, and what its lines are set with.
+#[derive(Clone, Copy)]
+pub(crate) struct BrokenParagraph<'a> {
+    pub(crate) sheet: &'a Sheet,
+    pub(crate) atoms: &'a [u64],
+    pub(crate) slots: &'a [u64],
+    ghost lines: { InLines sheet.now (words_of atoms.now slots.now) atoms.now slots.now },
+}
+
+impl<'a> BrokenParagraph<'a> {
+    pub(crate) fn lines(&self) -> Lines<'a>
+        ensures { result ≡ lines_of self.now.slots.now }
+    {
+        Lines::of(self.slots)
+    }
+}
+
+impl Book<'_, '_, '_> {
+    ghost use Rattle.layout.specs.Keeping.{Keeps};
+    ghost use Rattle.layout.specs.Finishes.{TakesAll};
+
+    // How many words there are, each in its slot behind the atoms. A paragraph that can't be read, which no call leaves in a book, has none.
+    fn break_paragraph(&mut self, tokens: &[u8]) -> usize
+        ensures lines { Broken self.old.sheet (paragraph_words self.old.sheet tokens.now) self.new.work.now result }
+        ensures same { Keeps self.old self.new }
+    {
+        let sheet = self.sheet;
+        let work = &mut *self.work;
+        let (atoms, slots) = work.split_at_mut(sheet.bulk);
+        let read = read_atoms(tokens, atoms).unwrap_or(0);
+        let words = split_words(&atoms[..read], slots, &sheet.widths);
+        break_lines(
+            &mut slots[..SLOT * words],
+            u64::from(sheet.space()),
+            sheet.width as u64,
+        );
+        words
+    }
+
+    // The paragraph that was broken last, of so many words.
+    fn paragraph(&self, words: usize) -> BrokenParagraph<'_>
+        requires { Broken self.now.sheet (slot_words self.now.sheet self.now.work.now words) self.now.work.now words }
+        ensures sheet { result.sheet.now ≡ self.now.sheet }
+        ensures atoms { result.atoms.now ≡ atoms_of self.now.sheet self.now.work.now }
+        ensures slots { result.slots.now ≡ slots_of self.now.sheet self.now.work.now words }
+    {
+        let (atoms, slots) = self.work.split_at(self.sheet.bulk);
+        BrokenParagraph {
+            sheet: &self.sheet,
+            atoms,
+            slots: &slots[..SLOT * words],
+        }
+    }
+
+    // A walk over the lines of a paragraph, each of one row, until the goal is reached.
+    pub(crate) fn walk_paragraph(&mut self, tokens: &[u8], goal: Goal, walk: Walk) -> Walk
+        requires { Small walk }
+        ensures value { result ≡ sought self.old.sheet.rows goal (replicate (length (paragraph_lines self.old.sheet tokens.now)) 1) walk }
+        ensures grown { Grown 4096 walk result }
+        ensures same { Keeps self.old self.new }
+    {
+        let words = self.break_paragraph(tokens);
+        self.paragraph(words).walk(goal, walk)
+    }
+
+    // The lines of a paragraph, as far as rows are wanted.
+    pub(crate) fn take_paragraph(&mut self, tokens: &[u8], rows: &mut RowWriter)
+        ensures rows { TakesAll rows.old rows.new (letters_of (paragraph_lines self.old.sheet tokens.now)) }
+        ensures same { Keeps self.old self.new }
+    {
+        let words = self.break_paragraph(tokens);
+        self.paragraph(words).take_lines(rows);
+    }
 }

@@ -57,10 +57,7 @@ impl Walk {
     pub(crate) fn has_reached(self, goal: Goal) -> bool
         ensures { result ≡ has_reached goal self }
     {
-        if self.pages <= goal.page {
-            return false;
-        }
-        self.pages - goal.page > 1 || self.lines >= goal.lines
+        self.pages > goal.page && (self.pages - goal.page > 1 || self.lines >= goal.lines)
     }
 }
 

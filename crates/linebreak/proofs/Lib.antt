@@ -1,3 +1,4 @@
 pub mod Tries
 pub mod Writes
 pub mod Paths
+pub mod Leading

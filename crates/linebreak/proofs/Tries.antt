@@ -7,17 +7,8 @@ use Rattle.meaning.specs.Lines.{Word, nothing_yet, long, natural, Best, try, bes
 use Rattle.meaning.proofs.Picks.{pick_true, pick_false}
 use Rattle.meaning.proofs.Widths.{widths, length_widths, natural_part, row_part_one, row_part_more, line_cost_is_row}
 use Rattle.meaning.proofs.Best.{first_line, try_one, try_takes, try_keeps, try_stops, best_none, best_drop}
-use Rattle.linebreak.specs.Slots.{width_at, cost_at, words_at, Measured, line_costs, cost_from}
-
--- the slots from i on have the best lines
-pub record SolvedFrom (wide : ℕ → ℕ) (width : ℕ) (ws : List Word) (xs : List ℕ) (n i : ℕ) : Type 0 where
-  pub costs : (k : ℕ) → i ≤ k → k < n → cost_at xs k ≡ (best wide width (drop k ws)).costs
-  pub firsts : (k : ℕ) → i ≤ k → k < n → words_at xs k ≡ get_or (best wide width (drop k ws)).ks 0 0
-
--- what it costs and how many words its first line has
-pub record Shown (b : Best) (cost words : ℕ) : Type 0 where
-  pub costs : cost ≡ b.costs
-  pub first : words ≡ get_or b.ks 0 0
+use Rattle.linebreak.specs.Slots.{width_at, Measured, line_costs, cost_from}
+use Rattle.linebreak.specs.Ways.{SolvedFrom, Shown}
 
 shown_at : (a b : Best) (cost words : ℕ) → a ≡ b → Shown b cost words → Shown a cost words
 shown_at a b cost words e s = rw e s

@@ -5,15 +5,7 @@ use Rattle.std.proofs.lemmas.Bool.{ltb-true, cases_eq}
 use Rattle.meaning.specs.Lines.{Word, best}
 use Rattle.meaning.proofs.Picks.{pick_both}
 use Rattle.linebreak.specs.Slots.{cost_at, words_at, Measured, Solved, Leaves, line_costs, cost_from}
-use Rattle.linebreak.proofs.Tries.{SolvedFrom, Shown}
-
--- no line costs more: 4,096 words stick out, each with its space 1,048,831 wide
-abbrev pub dearest : ℕ
-dearest = 10000000000 + 4096 * 1048831
-
--- so the costs from a word on are at most that for each word
-abbrev pub SmallFrom : List ℕ → ℕ → ℕ → Type 0
-SmallFrom xs n i = (k : ℕ) → i ≤ k → k < n → cost_at xs k ≤ dearest * (n - k)
+use Rattle.linebreak.specs.Ways.{SolvedFrom, Shown, dearest, SmallFrom}
 
 pub line_costs_le : (width natural : ℕ) (is_last : Bool) → width ≤ 1000 → natural ≤ 4096 * 1048831 → line_costs width natural is_last ≤ dearest
 line_costs_le width natural is_last a b =

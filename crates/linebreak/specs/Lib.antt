@@ -1,1 +1,3 @@
 pub mod Slots
+pub mod Ways
+pub mod Lines

@@ -1,16 +1,22 @@
 // The best lines of a paragraph, over a row of slots, one for each word.
 #![tactic(auto)]
 
-ghost use Rattle.std.specs.Prelude.{◌≡◌, ◌*◌, ◌≤◌, length};
+ghost use Rattle.std.specs.Prelude.{◌≡◌, ◌+◌, ◌-◌, ◌*◌, ◌/◌, ◌<◌, ◌≤◌, length};
 ghost use Rattle.linebreak.specs.Slots.{Bounds, Breaks, Leaves, line_costs, cost_from, LinesFollow};
+ghost use Rattle.linebreak.specs.Ways.{dearest, SmallFrom, IsBest};
+ghost use Rattle.linebreak.specs.Lines.{LinesLead};
+
+mod lines;
+
+pub use lines::Lines;
 
 // A slot has eight numbers: 0 the word's first atom, 1 how many atoms it has, 2 its width, 3 the least cost from this word to the end,
 // 4 how many words the first line of that best way has, and 5 to 7 for later.
-const SLOT: usize = 8;
+pub const SLOT: usize = 8;
 
-const WIDTH: usize = 2;
+pub const WIDTH: usize = 2;
 
-const COST: usize = 3;
+pub const COST: usize = 3;
 
 const WORDS: usize = 4;
 
@@ -32,34 +38,62 @@ fn line_cost(width: u64, natural: u64, is_last: bool) -> u64
 }
 
 // The least cost from word k to the end, as its slot has it.
-fn cost_from(slots: &[u64], n: usize, k: usize) -> u64
-    requires { (8 * n ≤ length slots.now) × (n ≤ 4096) }
-    ensures { result ≡ cost_from slots.now n k }
+fn cost_from(slots: &[u64], k: usize) -> u64
+    requires { length slots.now / 8 ≤ 4096 }
+    ensures { result ≡ cost_from slots.now (length slots.now / 8) k }
 {
-    if k < n { slots[SLOT * k + COST] } else { 0 }
+    if k < slots.len() / SLOT {
+        slots[SLOT * k + COST]
+    } else {
+        0
+    }
 }
 
-// The best of all first lines, from the last word back to the first. Where a line is too wide and the best so far is not, no longer line is better.
-pub fn break_lines(slots: &mut [u64], n: usize, space: u64, width: u64)
-    requires { Bounds slots.old n space width }
-    ensures after { Breaks slots.old slots.new n space width }
-    ensures same { Leaves slots.old slots.new n }
-{
-    for i in (0..n).rev() {
+// Of the ways from a word to the end, the best: what it costs, and how many words its first line has.
+#[derive(Clone, Copy)]
+struct Way {
+    cost: u64,
+    words: usize,
+}
+
+impl Way {
+    // From word i on, over all its first lines. Where a line is too wide and the best so far is not, no longer line is better.
+    // The loop goes over places: a line is as long as they are apart.
+    fn best_from(slots: &[u64], i: usize, space: u64, width: u64) -> Way
+        requires bounds { Bounds slots.now (length slots.now / 8) space width }
+        requires later { (i < length slots.now / 8) × SmallFrom slots.now (length slots.now / 8) (i + 1) }
+        ensures small { (result.cost ≤ dearest * (length slots.now / 8 - i)) × (result.words ≤ length slots.now / 8 - i) }
+        ensures best { IsBest slots.now (length slots.now / 8) space width i result }
+    {
+        let n = slots.len() / SLOT;
         let mut natural = slots[SLOT * i + WIDTH];
-        let mut cost = line_cost(width, natural, i + 1 == n) + cost_from(slots, n, i + 1);
+        let mut cost = line_cost(width, natural, i + 1 == n) + cost_from(slots, i + 1);
         let mut words = 1;
         for j in i + 1..n {
             natural += space + slots[SLOT * j + WIDTH];
             if natural > width && cost < STICKS_OUT {
                 break;
             }
-            let with = line_cost(width, natural, j + 1 == n) + cost_from(slots, n, j + 1);
+            let with = line_cost(width, natural, j + 1 == n) + cost_from(slots, j + 1);
             if with <= cost {
                 cost = with;
                 words = j + 1 - i;
             }
         }
+        Way { cost, words }
+    }
+}
+
+// The best way from each word on, from the last word back to the first.
+// The slots are lent as one row of numbers, so that each is reached by its place, and those behind it are read when it is written.
+pub fn break_lines(slots: &mut [u64], space: u64, width: u64)
+    requires { Bounds slots.old (length slots.old / 8) space width }
+    ensures after { Breaks slots.old slots.new (length slots.old / 8) space width }
+    ensures same { Leaves slots.old slots.new (length slots.old / 8) }
+{
+    let n = slots.len() / SLOT;
+    for i in (0..n).rev() {
+        let Way { cost, words } = Way::best_from(slots, i, space, width);
         slots[SLOT * i + COST] = cost;
         slots[SLOT * i + WORDS] = words as u64;
     }
@@ -68,4 +102,9 @@ pub fn break_lines(slots: &mut [u64], n: usize, space: u64, width: u64)
 // Slots with the best lines lead from line to line through the best way.
 pub fn lines_follow()
     ensures { LinesFollow }
+{}
+
+// So the lines that they give are those of the best way.
+pub fn lines_lead()
+    ensures { LinesLead }
 {}

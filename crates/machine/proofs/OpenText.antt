@@ -38,7 +38,7 @@ module _ (l : Limits) (g : Looks) (ps : List Tokens) (few : Fitting l ps) where
       open_from_parts bytes rs (record {
         limits =
             rw (h.most_paragraphs, h.most_tokens, h.most_definitions, h.most_bulk)
-            (and_from _ _ (and_from _ _ (le-leb _ _ small.0) (le-leb _ _ small.1)) (and_from _ _ (le-leb _ _ small.2) (le-leb _ _ small.3)));
+            (and_from _ _ (le-leb _ _ small.0) (and_from _ _ (le-leb _ _ small.1) (and_from _ _ (le-leb _ _ small.2) (le-leb _ _ small.3))));
         bytes_enough = omega (arith, h.most_tokens, enough);
         numbers_enough = omega (arith, h.most_paragraphs, h.most_tokens, h.most_definitions, h.most_bulk, enough_numbers);
         looks =
@@ -47,7 +47,7 @@ module _ (l : Limits) (g : Looks) (ps : List Tokens) (few : Fitting l ps) where
             (and_from _ _ (le-leb _ _ good.rows_enough.0) (le-leb _ _ good.rows_enough.1)));
         counts =
             rw (h.paragraphs, h.size, h.bytes, h.most_paragraphs, h.most_tokens)
-            (and_from _ _ (and_from _ _ (le-leb _ _ few.paragraphs_few) (le-leb _ _ few.tokens_few)) (le-leb _ _ (omega (arith, length_forms ps, few.tokens_few))));
+            (and_from _ _ (le-leb _ _ few.paragraphs_few) (and_from _ _ (le-leb _ _ few.tokens_few) (le-leb _ _ (omega (arith, length_forms ps, few.tokens_few)))));
         table = tables;
       })
 

@@ -4,14 +4,13 @@ use Rattle.std.specs.Str.{bytes_eq}
 use Rattle.meaning.specs.Text.{Token, letter, space, mark, page_of, note, command, given, Tokens, none, more, written, all_written}
 use Rattle.wire.specs.Bytes.{tokens_of}
 use Rattle.wire.proofs.Parses.{tokens_of_all_written}
-use Rattle.notation.specs.declared.fault.Fault.TheVariants.{Unclosed, ClosesNothing}
 use Rattle.notation.specs.declared.piece.Piece.{Piece}
 use Rattle.notation.specs.declared.piece.Piece.TheVariants.{Letter, Space, Mark, PageOf, Note, Command, Given, Close}
 use Rattle.notation.specs.Pieces.{form_of, depth_after, first_piece}
 use Rattle.notation.specs.Noted.{all_closed, piece_then, noted_in, noted_from, noted}
 use Rattle.notation.specs.Laws.{NotesTokens}
 use Rattle.notation.specs.Steps.{in_front}
-use Rattle.notation.proofs.Thens.{no_ok, then_ok}
+use Rattle.notation.proofs.Thens.{then_ok}
 
 Closes : ℕ → List ℕ → Type 0
 Closes zero bs = (ts : Tokens) × (bs ≡ all_written ts)
@@ -38,18 +37,18 @@ closes_piece (PageOf n) depth d bs e k = let same : d ≡ depth = cc in closes_t
 closes_piece Note depth d bs e k = let same : d ≡ suc depth = cc in closes_open note (4 ∷ []) (λ _. refl) depth bs (rw same at k)
 closes_piece (Command n) depth d bs e k = let same : d ≡ suc depth = cc in closes_open (command n) (5 ∷ (n ∷ [])) (λ _. refl) depth bs (rw same at k)
 closes_piece Given depth d bs e k = let same : d ≡ depth = cc in closes_token depth given bs (rw same at k)
-closes_piece Close zero d bs e k = no_ok _ d ClosesNothing (sym e)
+closes_piece Close zero d bs e k = cc
 closes_piece Close (suc depth) d bs e k = let same : d ≡ depth = cc in (none, bs, refl, rw same at k)
 
 closes_end : (depth : ℕ) (ws : List ℕ) → all_closed depth ≡ Ok ws → Closes depth ws
 unfolding Closes
 closes_end zero ws e = let same : ws ≡ [] = cc in (none, same)
-closes_end (suc depth) ws e = no_ok _ ws Unclosed (sym e)
+closes_end (suc depth) ws e = cc
 
 closes_noted : (n depth : ℕ) (bs ws : List ℕ) → noted_in n depth bs ≡ Ok ws → Closes depth ws
 unfolding noted_in
 closes_noted n depth [] ws e = closes_end depth ws e
-closes_noted zero depth (b ∷ bs) ws e = no_ok _ ws Unclosed (sym e)
+closes_noted zero depth (b ∷ bs) ws e = cc
 closes_noted (suc n) depth (b ∷ bs) ws e =
     let piece = then_ok (first_piece b bs) (piece_then (noted_in n) depth) ws e in
     let p = piece.0 in

@@ -30,7 +30,7 @@ depth_after_le (PageOf n) depth d e = let same : depth ≡ d = cc in omega arith
 depth_after_le Note depth d e = let same : suc depth ≡ d = cc in omega arith
 depth_after_le (Command n) depth d e = let same : suc depth ≡ d = cc in omega arith
 depth_after_le Given depth d e = let same : depth ≡ d = cc in omega arith
-depth_after_le Close zero d e = let z : ◌≡◌ {A = ℕ} 0 1 = cc in absurd (let no : ⊥ = omega arith in no)
+depth_after_le Close zero d e = cc
 depth_after_le Close (suc depth) d e = let same : depth ≡ d = cc in omega arith
 
 module _ (text before : List ℕ) (depth b : ℕ) (bs after : List ℕ) (so : SoFar text before depth (b ∷ bs) after) where

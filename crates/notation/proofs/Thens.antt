@@ -1,13 +1,10 @@
 -- What was read where reading went on, and what was said in front of what is said.
-use Rattle.std.proofs.Common.{◌≡◌, ℕ, List, [], ◌++◌, Ok, Err, Result, sym, refl, ap, append_assoc, arith}
+use Rattle.std.proofs.Common.{◌≡◌, ℕ, List, [], ◌++◌, Ok, Err, Result, sym, refl, ap, append_assoc}
 use Rattle.notation.specs.Steps.{then, in_front}
-
-pub no_ok : {A E : Type 0} (P : Type 0) (x : A) (e : E) → ◌≡◌ {A = Result A E} (Ok x) (Err e) → P
-no_ok P x e same = let z : ◌≡◌ {A = ℕ} 0 1 = cc in absurd (let no : ⊥ = omega arith in no)
 
 pub then_ok : {A B E : Type 0} (r : Result A E) (f : A → Result B E) (y : B) → then r f ≡ Ok y → (x : A) × (r ≡ Ok x) × (f x ≡ Ok y)
 then_ok (Ok x) f y e = (x, refl, e)
-then_ok (Err d) f y e = no_ok _ y d (sym e)
+then_ok (Err d) f y e = cc
 
 module _ {E : Type 0} where
   pub in_front_nothing : (r : Result (List ℕ) E) → in_front [] r ≡ r

@@ -4,9 +4,10 @@ ghost use Rattle.notation.specs.declared.fault.Fault.TheVariants.{NoMemory};
 ghost use Rattle.notation.specs.Messages.{fault_text};
 
 use std::alloc::AllocFailed;
+use std::error::Error;
 use std::fmt;
 
-#[derive(Clone, Copy)]
+#[derive(Clone, Copy, Debug, PartialEq, Eq)]
 pub enum Fault {
     // a backslash that begins no token
     NoToken,
@@ -43,6 +44,8 @@ impl fmt::Display for Fault {
         f.write_str(self.message())
     }
 }
+
+impl Error for Fault {}
 
 impl<T: Drop> From<AllocFailed<T>> for Fault {
     ghost from_gives = { λ _ r. r ≡ NoMemory };

@@ -1,43 +1,45 @@
 // Numbers in decimal digits.
-ghost use Rattle.std.specs.Prelude.{◌≡◌, min, take};
+ghost use Rattle.std.specs.Prelude.{◌≡◌, ◌^◌, ◌≤◌, length, min, cond, Some, None};
 ghost use Rattle.std.specs.Char.{is_ascii_digit};
 ghost use Rattle.std.specs.List.{prefix_len};
+ghost use Rattle.std.specs.Str.{all_ascii_digits};
 ghost use Rattle.notation.specs.Numbers.{value_of, number_to};
 ghost use Rattle.notation.specs.Steps.{behind};
 
 use crate::fault::Fault;
 
-// What the digits say that come first, or 256 for anything larger, and how many they are.
-fn leading_number(text: &[u8]) -> (u16, usize)
-    ensures value { result.0 ≡ min (value_of (take result.1 text.now)) 256 }
-    ensures len { result.1 ≡ prefix_len is_ascii_digit text.now }
+// What digits say, or 2^32 for anything larger; None where a byte is no digit.
+pub fn digits_value(digits: &[u8]) -> Option<u64>
+    ensures { result ≡ cond (all_ascii_digits digits.now) (Some (min (value_of digits.now) (2 ^ 32))) None }
 {
-    let mut n: u16 = 0;
-    let mut len = 0;
-    while len < text.len() && text[len].is_ascii_digit() {
-        n = (10 * n + u16::from(text[len] - b'0')).min(256);
-        len += 1;
+    let mut n = 0;
+    for digit in digits {
+        let digit = char::from(*digit).to_digit(10)?;
+        // What is too large stays so, whatever digits follow.
+        n = (10 * n + u64::from(digit)).min(1 << 32);
     }
-    (n, len)
+    Some(n)
+}
+
+// How many digits come first.
+fn digits_len(text: &[u8]) -> usize
+    ensures value { result ≡ prefix_len is_ascii_digit text.now }
+    ensures within { result ≤ length text.now }
+{
+    text.iter().take_while(|b| b.is_ascii_digit()).count()
 }
 
 // A number up to 255 in one digit or more, with an end byte, and what stands behind that.
+#[tactic(auto, using(crate::proofs::Digits::digits_first), unfolding(crate::specs::Numbers::number_to))]
 pub fn number_to(text: &[u8], end: u8) -> Result<(u8, &[u8]), Fault>
     ensures { behind result ≡ number_to end text.now }
 {
-    let (n, len) = leading_number(text);
-    if len == 0 {
+    let (digits, rest) = text.split_at(digits_len(text));
+    if digits.is_empty() {
         return Err(Fault::NoToken);
     }
-    let (_, rest) = text.split_at(len);
-    let [first, rest @ ..] = rest else {
-        return Err(Fault::NoToken);
-    };
-    if *first != end {
-        return Err(Fault::NoToken);
-    }
-    match u8::try_from(n) {
-        Ok(n) => Ok((n, rest)),
-        Err(_) => Err(Fault::TooLarge),
-    }
+    let n = digits_value(digits).ok_or(Fault::NoToken)?;
+    let rest = rest.strip_prefix(&[end]).ok_or(Fault::NoToken)?;
+    let n = u8::try_from(n).map_err(|_| Fault::TooLarge)?;
+    Ok((n, rest))
 }

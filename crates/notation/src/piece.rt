@@ -1,13 +1,15 @@
 // The pieces of a text: tokens, and the braces that open and close what a note or a command holds.
 ghost use Rattle.std.specs.Prelude.{◌≡◌, ◌+◌, ◌^◌, ◌<◌, ◌∷◌};
 ghost use Rattle.std.specs.Option.{option_to_list};
+ghost use Rattle.wire.specs.Kinds.{token_byte};
 ghost use Rattle.notation.specs.Pieces.{form_of, depth_after, worded, escaped, first_piece, Adds};
 ghost use Rattle.notation.specs.Steps.{behind};
 
 use crate::fault::Fault;
 use crate::number::number_to;
+use wire::TokenKind;
 
-#[derive(Clone, Copy)]
+#[derive(Clone, Copy, Debug, PartialEq, Eq)]
 pub enum Piece {
     Letter(u8),
     Space,
@@ -22,19 +24,19 @@ pub enum Piece {
 }
 
 impl Piece {
-    // Its kind as a byte, and its number if it has one.
-    fn form(self) -> (u8, Option<u8>)
-        ensures { result.0 ∷ option_to_list result.1 ≡ form_of self }
+    // Its kind, and its number if it has one.
+    fn form(self) -> (TokenKind, Option<u8>)
+        ensures { token_byte result.0 ∷ option_to_list result.1 ≡ form_of self }
     {
         match self {
-            Piece::Letter(b) => (0, Some(b)),
-            Piece::Space => (1, None),
-            Piece::Mark(n) => (2, Some(n)),
-            Piece::PageOf(n) => (3, Some(n)),
-            Piece::Note => (4, None),
-            Piece::Command(n) => (5, Some(n)),
-            Piece::Given => (6, None),
-            Piece::Close => (7, None),
+            Piece::Letter(b) => (TokenKind::Letter, Some(b)),
+            Piece::Space => (TokenKind::Space, None),
+            Piece::Mark(n) => (TokenKind::Mark, Some(n)),
+            Piece::PageOf(n) => (TokenKind::PageOf, Some(n)),
+            Piece::Note => (TokenKind::Note, None),
+            Piece::Command(n) => (TokenKind::Command, Some(n)),
+            Piece::Given => (TokenKind::Given, None),
+            Piece::Close => (TokenKind::End, None),
         }
     }
 
@@ -42,7 +44,7 @@ impl Piece {
         ensures { Adds (form_of self) out.old.items out.new.items result }
     {
         let (kind, number) = self.form();
-        out.push(kind)?;
+        out.push(kind.into())?;
         if let Some(number) = number {
             out.push(number)?;
         }
@@ -56,18 +58,14 @@ impl Piece {
     {
         match self {
             Piece::Note | Piece::Command(_) => Ok(depth + 1),
-            Piece::Close => {
-                if depth == 0 {
-                    return Err(Fault::ClosesNothing);
-                }
-                Ok(depth - 1)
-            }
+            Piece::Close => depth.checked_sub(1).ok_or(Fault::ClosesNothing),
             _ => Ok(depth),
         }
     }
 }
 
 // Behind a backslash: a word, or a command's number.
+#[tactic(auto, unfolding(crate::specs::Pieces::worded))]
 fn worded(text: &[u8]) -> Result<(Piece, &[u8]), Fault>
     ensures { behind result ≡ worded text.now }
 {
@@ -82,19 +80,18 @@ fn worded(text: &[u8]) -> Result<(Piece, &[u8]), Fault>
 }
 
 // What stands behind a backslash.
+#[tactic(auto, unfolding(crate::specs::Pieces::escaped))]
 fn escaped(text: &[u8]) -> Result<(Piece, &[u8]), Fault>
     ensures { behind result ≡ escaped text.now }
 {
-    let [first, rest @ ..] = text else {
-        return Err(Fault::NoToken);
-    };
-    match *first {
-        b'\\' | b'{' | b'}' => Ok((Piece::Letter(*first), rest)),
-        b'm' => {
+    match text {
+        [] => Err(Fault::NoToken),
+        [letter @ (b'\\' | b'{' | b'}'), rest @ ..] => Ok((Piece::Letter(*letter), rest)),
+        [b'm', rest @ ..] => {
             let (n, rest) = number_to(rest, b';')?;
             Ok((Piece::Mark(n), rest))
         }
-        b'p' => {
+        [b'p', rest @ ..] => {
             let (n, rest) = number_to(rest, b';')?;
             Ok((Piece::PageOf(n), rest))
         }
@@ -103,6 +100,7 @@ fn escaped(text: &[u8]) -> Result<(Piece, &[u8]), Fault>
 }
 
 // The piece that a text begins with, by its first byte, and what stands behind it.
+#[tactic(auto, unfolding(crate::specs::Pieces::first_piece))]
 pub fn first_piece(first: u8, rest: &[u8]) -> Result<(Piece, &[u8]), Fault>
     ensures { behind result ≡ first_piece first rest.now }
 {

@@ -4,9 +4,9 @@
 use layout::{count_pages, show_rows};
 use std::alloc::{AllocError, Global};
 use std::{fmt, io};
-use store::{Asked, Limits, Looks, open, put};
+use store::{Asked, Content, Edit, Limits, Looks, change, open};
 use text::Outcome;
-use wire::Refusal;
+use wire::{AnswerKind, Refusal, TokenKind};
 
 // Enough for each of the texts.
 const LIMITS: Limits = Limits {
@@ -19,8 +19,24 @@ const LIMITS: Limits = Limits {
 // What one row can take, with what stands before it.
 const ROOM: usize = 20484;
 
-// A letter with its place takes so many bytes.
-const LETTER: usize = 5;
+// Why there is no book: it was refused, or there was no memory for it.
+#[derive(Drop)]
+enum Failure {
+    Refused(Refusal),
+    NoMemory(AllocError),
+}
+
+impl From<Refusal> for Failure {
+    fn from(refusal: Refusal) -> Failure {
+        Failure::Refused(refusal)
+    }
+}
+
+impl From<AllocError> for Failure {
+    fn from(error: AllocError) -> Failure {
+        Failure::NoMemory(error)
+    }
+}
 
 // A text, and what its pages look like.
 #[derive(Clone, Copy)]
@@ -77,7 +93,7 @@ const SAMPLES: [Sample; 8] = [
     },
 ];
 
-// A table of the letters from 32 on, the space.
+// A table of the letters from 32 on, the space. The program speed has the same: a library for this table alone would be no plainer.
 fn widths() -> [u8; 95] {
     let mut widths = [6; 95];
     widths[0] = 4;
@@ -115,40 +131,45 @@ fn tokens_of(heap: Global, text: &str) -> Result<Vec<u8>, AllocError> {
     let mut tokens = Vec::new(heap);
     for letter in text.bytes() {
         if letter == b' ' {
-            tokens.push(1)?;
+            tokens.push(u8::from(TokenKind::Space))?;
         } else {
-            tokens.push(0)?;
+            tokens.push(u8::from(TokenKind::Letter))?;
             tokens.push(letter)?;
         }
     }
     Ok(tokens)
 }
 
-// The bytes of an answer that is one row.
+// The bytes of an answer that is one row. The text of an answer would have a line before it.
 #[derive(Clone, Copy)]
 struct Row<'a>(&'a [u8]);
 
+impl Row<'_> {
+    // Before them stand what kind of an answer it is, how many rows, and how many letters.
+    fn letters(&self) -> Option<&[u8]> {
+        let [kind, 1, _, _, letters @ ..] = self.0 else {
+            return None;
+        };
+        (AnswerKind::try_from(*kind) == Ok(AnswerKind::Rows)).then_some(letters)
+    }
+}
+
 impl fmt::Display for Row<'_> {
     fn fmt<W: fmt::Write>(&self, f: &mut fmt::Formatter<W>) -> fmt::Result {
-        // Before the letters stand what kind of an answer it is, how many rows, and how many letters.
-        let [2, 1, _, _, letters @ ..] = self.0 else {
+        let Some(letters) = self.letters() else {
             return f.write_str("no row");
         };
-        for (k, letter) in letters.chunks_exact(LETTER).enumerate() {
-            if k > 0 {
-                f.write_str(" ")?;
-            }
-            if let [what, a, b, c, d] = letter {
-                let what = char::from(*what);
-                let at = u32::from_be_bytes([*a, *b, *c, *d]);
-                write!(f, "{what} {at}")?;
-            }
+        for (k, [what, a, b, c, d]) in letters.as_chunks::<5>().0.iter().enumerate() {
+            let gap = if k > 0 { " " } else { "" };
+            let what = char::from(*what);
+            let at = u32::from_be_bytes([*a, *b, *c, *d]);
+            write!(f, "{gap}{what} {at}")?;
         }
         Ok(())
     }
 }
 
-// A book in memory, and room for a row.
+// A book in memory, and room for a row. The program answer has the like: a library would need contracts on vectors for these few lines.
 #[derive(Drop)]
 struct Book {
     tokens: Vec<u8>,
@@ -159,10 +180,10 @@ struct Book {
 impl Book {
     // Not open yet. There is no memory for looks that are out of range.
     fn new(heap: Global, looks: &Looks) -> Result<Book, AllocError> {
-        let (tokens, rest) = match Asked::of(&LIMITS, looks) {
-            Some(asked) => (asked.tokens, asked.rest),
-            None => (0, 0),
-        };
+        let (tokens, rest) = Asked::of(&LIMITS, looks).map_or(
+            (0, 0),
+            |asked| (asked.tokens, asked.rest),
+        );
         Ok(Book {
             tokens: vec![in heap; 0u8; tokens]?,
             rest: vec![in heap; 0u64; rest]?,
@@ -174,14 +195,12 @@ impl Book {
         open(&mut self.tokens, &mut self.rest, &LIMITS, looks)
     }
 
-    fn put(&mut self, k: u16, tokens: &[u8], size: usize) -> Result<(), Refusal> {
-        put(&mut self.tokens, &mut self.rest, k, tokens, size)
+    fn put(&mut self, k: u16, content: Content<'_>) -> Result<(), Refusal> {
+        change(&mut self.tokens, &mut self.rest, Edit::Put(k, content))
     }
 
-    // There are at most as many as there are tokens.
     fn count_pages(&mut self) -> Result<u32, Refusal> {
-        let pages = count_pages(&self.tokens, &mut self.rest)?;
-        Ok(u32::try_from(pages).unwrap_or(u32::MAX))
+        count_pages(&self.tokens, &mut self.rest)
     }
 
     fn row(&mut self, page: u32, row: u16) -> Result<Row<'_>, Refusal> {
@@ -192,19 +211,19 @@ impl Book {
 }
 
 // The book with the text in it.
-fn book_of(heap: Global, sample: &Sample) -> Result<Result<Book, Refusal>, AllocError> {
+fn book_of(heap: Global, sample: &Sample) -> Result<Book, Failure> {
     let looks = sample.looks();
     let mut book = Book::new(heap, &looks)?;
-    if let Err(refusal) = book.open(&looks) {
-        return Ok(Err(refusal));
-    }
+    book.open(&looks)?;
     for (k, text) in (0..u16::MAX).zip(sample.paragraphs) {
         let tokens = tokens_of(heap, text)?;
-        if let Err(refusal) = book.put(k, &tokens, text.len()) {
-            return Ok(Err(refusal));
-        }
+        let content = Content {
+            bytes: &tokens,
+            size: text.len(),
+        };
+        book.put(k, content)?;
     }
-    Ok(Ok(book))
+    Ok(book)
 }
 
 fn print_refusal(rt: &HostRuntime, refusal: Refusal) -> io::Result<()> {
@@ -232,26 +251,26 @@ fn print_pages(rt: &HostRuntime, book: &mut Book, pages: u32) -> io::Result<()> 
 }
 
 fn print_book(rt: &HostRuntime, book: &mut Book, sample: &Sample) -> io::Result<()> {
-    match book.count_pages() {
-        Err(refusal) => print_refusal(rt, refusal),
-        Ok(pages) => {
-            let noun = if pages == 1 { "page" } else { "pages" };
-            println!(rt; "{sample}: {pages} {noun}")?;
-            print_pages(rt, book, pages)
-        }
-    }
+    let pages = match book.count_pages() {
+        Ok(pages) => pages,
+        Err(refusal) => return print_refusal(rt, refusal),
+    };
+    let noun = if pages == 1 { "page" } else { "pages" };
+    println!(rt; "{sample}: {pages} {noun}")?;
+    print_pages(rt, book, pages)
 }
 
 fn print_sample(rt: &HostRuntime, sample: &Sample) -> io::Result<()> {
-    match book_of(rt.alloc(), sample)? {
-        Err(refusal) => print_refusal(rt, refusal),
+    match book_of(rt.alloc(), sample) {
         Ok(mut book) => print_book(rt, &mut book, sample),
+        Err(Failure::Refused(refusal)) => print_refusal(rt, refusal),
+        Err(Failure::NoMemory(error)) => Err(io::Error::from(error)),
     }
 }
 
 fn main(rt: HostRuntime) -> io::Result<()> {
-    for sample in SAMPLES {
-        print_sample(&rt, &sample)?;
+    for sample in &SAMPLES {
+        print_sample(&rt, sample)?;
     }
     Ok(())
 }

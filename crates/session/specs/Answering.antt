@@ -1,17 +1,21 @@
 -- What a call answers and leaves, for all lent slices and all bytes.
 --   memory_in   the lent slices, cut to what the header asks for
+--   Wished      the change that a call asks for, or that it asks for none
 --   said        what a call is answered, by the machine where memory is an open book
 --   left        what it leaves in a slice
 --   Answers     what `call` gives back, and leaves in each slice
-use Rattle.std.specs.Prelude.{◌≡◌, ℕ, min, Bool, List, [], length, take, drop, Some, None, Option, Result, nat_le}
+use Rattle.std.specs.Prelude.{◌≡◌, ℕ, min, Bool, List, [], length, take, drop, Some, None, Ok, Err, Option, Result, IfErr, nat_le}
 use Rattle.meaning.specs.Text.{pick}
 use Rattle.meaning.specs.Calls.{Call, Answer, refused, Limits}
 use Rattle.meaning.specs.Promise.{Memory}
 use Rattle.wire.specs.Bytes.{over, answer_bytes, Reading, is_call, stops, reading}
 use Rattle.wire.specs.declared.refusal.Refusal.{Refusal}
+use Rattle.wire.specs.declared.refusal.Refusal.TheVariants.{Unfit}
 use Rattle.store.specs.Opened.{limits_of, tokens_asked, kept_asked, words_asked, rest_of}
 use Rattle.store.specs.Kept.{limits_at, is_open}
-use Rattle.store.specs.Changes.{Edit}
+use Rattle.store.specs.Changes
+use Rattle.store.specs.Edits.{edit_by}
+use Rattle.store.specs.declared.changes.Edit.{Edit}
 use Rattle.machine.specs.Setter.{wish, told_of, setter}
 
 abbrev pub limits_in : List ℕ → Limits
@@ -25,8 +29,17 @@ memory_in ts rs =
       kept = take (kept_asked (limits_in rs)) rs;
     }
 
+-- the change is the machine's, whatever the numbers are; a call that is none is unfit
+abbrev pub wished : Result Edit Refusal → List ℕ → Option Changes.Edit
+wished (Ok edit) rs = Some (edit_by edit rs)
+wished (Err why) rs = None
+
+pub record Wished (c : Call) (r : Result Edit Refusal) : Type 0 where
+  pub value : (rs : List ℕ) → wish rs c ≡ wished r rs
+  pub refusal : IfErr r (λ why. why ≡ Unfit)
+
 -- of memory that is no open book: a call that is no good comes first, by 2, and then that it is none, by 3
-abbrev pub unopened : Option Edit → Answer
+abbrev pub unopened : Option Changes.Edit → Answer
 unopened None = refused 2 0
 unopened (Some e) = refused 3 2
 

@@ -1,10 +1,11 @@
 // A call is read, looked at by the list of refusals, made, and answered.
-ghost use Rattle.std.specs.Prelude.{◌≡◌, min};
-ghost use Rattle.wire.specs.Answers.{answer_of};
+ghost use Rattle.std.specs.Prelude.{◌≡◌, Some, None, MatchResult};
+ghost use Rattle.wire.specs.Fit.{Measures};
 ghost use Rattle.wire.specs.Reads.{call_of, WholeTokens};
-ghost use Rattle.session.specs.Answering.{Performs, Replies, Answers};
+ghost use Rattle.machine.specs.Setter.{told_of};
+ghost use Rattle.session.specs.Answering.{Wished, Performs, Replies, Answers};
 
-use store::{cut, put, put_in};
+use store::{Content, Edit, change};
 use wire::{Answer, Call, Refusal, read_call, tokens_size, write_answer};
 
 // What the longest answer takes: 8 rows of 4,096 letters, each with its place.
@@ -13,14 +14,24 @@ pub const ROOM: usize = 163_858;
 // How deep tokens may be nested.
 const DEPTH: u8 = 16;
 
-// A place in a call that is longer than four bytes can tell is told as the last that they can.
-fn place_of(at: usize) -> u32
-    ensures { result ≡ min at 4294967295 }
+// Tokens that the stage can do, with what they count.
+fn content(bytes: &[u8]) -> Result<Content<'_>, Refusal>
+    ensures { MatchResult result (λ new. (new.bytes.now ≡ bytes.now) × Measures bytes.now 16 (Some new.size)) (λ why. (why ≡ Refusal.Unfit) × Measures bytes.now 16 None) }
 {
-    if at < 4_294_967_295 {
-        at as u32
-    } else {
-        4_294_967_295
+    let size = tokens_size(bytes, DEPTH).ok_or(Refusal::Unfit)?;
+    Ok(Content { bytes, size })
+}
+
+// The change that a call asks for, if it is one that the stage can do.
+fn edit_of(call: Call<'_>) -> Result<Edit<'_>, Refusal>
+    requires { WholeTokens call }
+    ensures { Wished (call_of call.entry) result }
+{
+    match call {
+        Call::Put(k, bytes) => Ok(Edit::Put(k, content(bytes)?)),
+        Call::PutIn(k, bytes) => Ok(Edit::PutIn(k, content(bytes)?)),
+        Call::Cut(k) => Ok(Edit::Cut(k)),
+        _ => Err(Refusal::Unfit),
     }
 }
 
@@ -29,34 +40,15 @@ fn perform(tokens: &mut [u8], rest: &mut [u64], call: Call<'_>) -> Result<(), Re
     requires { WholeTokens call }
     ensures { Performs tokens.old rest.old (call_of call.entry) tokens.new rest.new result }
 {
-    match call {
-        Call::Put(k, bytes) => {
-            let Some(size) = tokens_size(bytes, DEPTH) else {
-                return Err(Refusal::Unfit);
-            };
-            put(tokens, rest, k, bytes, size)
-        }
-        Call::PutIn(k, bytes) => {
-            let Some(size) = tokens_size(bytes, DEPTH) else {
-                return Err(Refusal::Unfit);
-            };
-            put_in(tokens, rest, k, bytes, size)
-        }
-        Call::Cut(k) => cut(tokens, rest, k),
-        _ => Err(Refusal::Unfit),
-    }
+    let edit = edit_of(call)?;
+    change(tokens, rest, edit)
 }
 
-fn answer(tokens: &mut [u8], rest: &mut [u64], bytes: &[u8]) -> Answer
-    ensures { Replies tokens.old rest.old bytes.now tokens.new rest.new (answer_of result) }
+fn carry_out(tokens: &mut [u8], rest: &mut [u64], bytes: &[u8]) -> Result<(), Refusal>
+    ensures { Replies tokens.old rest.old bytes.now tokens.new rest.new (told_of result) }
 {
-    match read_call(bytes) {
-        Ok(call) => match perform(tokens, rest, call) {
-            Ok(()) => Answer::Done,
-            Err(why) => Answer::Refused(why),
-        },
-        Err(at) => Answer::Refused(Refusal::Unreadable(place_of(at))),
-    }
+    let call = read_call(bytes)?;
+    perform(tokens, rest, call)
 }
 
 // How many bytes the answer has; None, and nothing is written, where `out` has no room for the longest answer.
@@ -66,6 +58,6 @@ pub fn call(tokens: &mut [u8], rest: &mut [u64], bytes: &[u8], out: &mut [u8]) -
     if out.len() < ROOM {
         return None;
     }
-    let answer = answer(tokens, rest, bytes);
+    let answer = Answer::from(carry_out(tokens, rest, bytes));
     Some(write_answer(out, answer))
 }

@@ -1,4 +1,5 @@
 // A session with a book in lent memory: it is opened, and calls are answered, bytes in and bytes out.
+// The two slices go side by side through every function, as the C interface lends them.
 #![tactic(auto)]
 
 mod answering;

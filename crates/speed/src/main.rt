@@ -1,12 +1,14 @@
 // Breaks paragraphs of letters and spaces into lines, and says how many there are, and on demand how long it took.
 #![tactic(auto)]
 
-ghost use Rattle.std.specs.Prelude.{◌≤◌, length};
+ghost use Rattle.std.specs.Prelude.{◌≤◌};
 
+use linebreak::SLOT;
 use lines::count_lines;
 use std::alloc::{AllocError, Global};
 use std::time::Instant;
 use std::{env, io};
+use wire::TokenKind;
 
 mod lines;
 
@@ -19,8 +21,8 @@ Breaks three sets of paragraphs into lines, 360 wide, and says for each set how 
 // As many letters and spaces as a paragraph may have.
 const BULK: usize = 4096;
 
-// The atoms, and a slot of eight numbers for each word.
-const WORK: usize = 9 * BULK;
+// Those of a slot for each word.
+const NUMBERS: usize = SLOT * BULK;
 
 const WIDTH: u64 = 360;
 
@@ -56,6 +58,7 @@ impl Dice {
 #[derive(Drop)]
 struct Paragraph {
     tokens: Vec<u8>,
+    // in letters and spaces, of which a letter takes two bytes
     size: usize,
 }
 
@@ -68,14 +71,14 @@ impl Paragraph {
     }
 
     fn push_letter(&mut self, letter: u8) -> Result<(), AllocError> {
-        self.tokens.push(0)?;
+        self.tokens.push(u8::from(TokenKind::Letter))?;
         self.tokens.push(letter)?;
         self.size = self.size.saturating_add(1);
         Ok(())
     }
 
     fn push_space(&mut self) -> Result<(), AllocError> {
-        self.tokens.push(1)?;
+        self.tokens.push(u8::from(TokenKind::Space))?;
         self.size = self.size.saturating_add(1);
         Ok(())
     }
@@ -110,6 +113,35 @@ impl Paragraph {
     }
 }
 
+// What lines are counted with: the widths of the letters, and room for atoms and for words.
+#[derive(Drop)]
+struct Desk {
+    widths: [u8; 95],
+    atoms: [u64; BULK],
+    slots: [u64; NUMBERS],
+}
+
+impl Desk {
+    fn new() -> Desk {
+        Desk {
+            widths: widths(),
+            atoms: [0; BULK],
+            slots: [0; NUMBERS],
+        }
+    }
+
+    // None where the paragraph can't be read.
+    fn count_lines(&mut self, paragraph: &Paragraph) -> Option<usize> {
+        count_lines(
+            &paragraph.tokens,
+            &mut self.atoms,
+            &mut self.slots,
+            &self.widths,
+            WIDTH,
+        )
+    }
+}
+
 #[derive(Drop)]
 struct Set {
     name: &'static str,
@@ -118,8 +150,7 @@ struct Set {
 
 impl Set {
     fn one(heap: Global, name: &'static str, paragraph: Paragraph) -> Result<Set, AllocError> {
-        let mut paragraphs = Vec::new(heap);
-        paragraphs.push(paragraph)?;
+        let paragraphs = vec![in heap; paragraph]?;
         Ok(Set { name, paragraphs })
     }
 
@@ -137,33 +168,24 @@ impl Set {
     }
 
     fn size(&self) -> usize {
-        let mut size = 0usize;
-        for paragraph in self.paragraphs.iter() {
-            size = size.saturating_add(paragraph.size);
-        }
-        size
+        self.paragraphs
+            .iter()
+            .fold(0, |size, paragraph| size.saturating_add(paragraph.size))
     }
 
     // None where a paragraph can't be read.
-    fn count_lines(&self, work: &mut [u64], widths: &[u8; 95]) -> Option<usize>
-        requires { 36864 ≤ length work.old }
-    {
-        let mut lines = 0usize;
-        for paragraph in self.paragraphs.iter() {
-            let more = count_lines(&paragraph.tokens, work, BULK, widths, WIDTH)?;
-            lines = lines.saturating_add(more);
-        }
-        Some(lines)
+    fn count_lines(&self, desk: &mut Desk) -> Option<usize> {
+        self.paragraphs.iter().try_fold(0usize, |lines, paragraph| {
+            Some(lines.saturating_add(desk.count_lines(paragraph)?))
+        })
     }
 
     // In microseconds.
-    fn best_time(&self, rt: &HostRuntime, work: &mut [u64], widths: &[u8; 95]) -> io::Result<u128>
-        requires { 36864 ≤ length work.old }
-    {
+    fn best_time(&self, rt: &HostRuntime, desk: &mut Desk) -> io::Result<u128> {
         let mut best = u128::MAX;
         for _ in 0..RUNS {
             let start = Instant::now(rt)?;
-            let lines = self.count_lines(work, widths);
+            let lines = self.count_lines(desk);
             let took = start.elapsed(rt)?.as_micros();
             if lines.is_some() {
                 best = best.min(took);
@@ -173,7 +195,7 @@ impl Set {
     }
 }
 
-// A table of the letters from 32 on, the space.
+// A table of the letters from 32 on, the space. The program samples has the same: a library for this table alone would be no plainer.
 fn widths() -> [u8; 95] {
     let mut widths = [6; 95];
     widths[0] = 4;
@@ -193,50 +215,39 @@ fn sets(heap: Global) -> Result<[Set; 3], AllocError> {
     ])
 }
 
-fn report(rt: &HostRuntime, set: &Set, work: &mut [u64], timed: bool) -> io::Result<()>
-    requires { 36864 ≤ length work.old }
-{
-    let widths = widths();
+fn report(rt: &HostRuntime, set: &Set, desk: &mut Desk, timed: bool) -> io::Result<()> {
     let name = set.name;
     let size = set.size();
-    match set.count_lines(work, &widths) {
-        None => return println!(rt; "{name}: can't be read"),
-        Some(lines) => println!(rt; "{name}: {size} letters and spaces, {lines} lines")?,
-    }
+    let Some(lines) = set.count_lines(desk) else {
+        return println!(rt; "{name}: can't be read");
+    };
+    println!(rt; "{name}: {size} letters and spaces, {lines} lines")?;
     if timed {
-        let best = set.best_time(rt, work, &widths)?;
+        let best = set.best_time(rt, desk)?;
         println!(rt; "    {best} microseconds, the best of {RUNS} runs")?;
     }
     Ok(())
 }
 
-fn report_sets(rt: &HostRuntime, sets: &[Set], work: &mut [u64], timed: bool) -> io::Result<()>
-    requires { 36864 ≤ length work.old }
-{
-    for set in sets {
-        report(rt, set, work, timed)?;
+fn report_all(rt: &HostRuntime, timed: bool) -> io::Result<()> {
+    let mut desk = Desk::new();
+    for set in &sets(rt.alloc())? {
+        report(rt, set, &mut desk, timed)?;
     }
     Ok(())
-}
-
-fn report_all(rt: &HostRuntime, timed: bool) -> io::Result<()> {
-    let mut work = vec![in rt.alloc(); 0u64; WORK]?;
-    let sets = sets(rt.alloc())?;
-    report_sets(rt, &sets, &mut work, timed)
 }
 
 fn main(rt: HostRuntime) -> io::Result<()> {
     let mut args = env::args(&rt)?;
     args.next();
-    match args.next() {
+    let word = args.next();
+    match word.as_deref() {
         None => report_all(&rt, false),
-        Some(word) => match word.as_str() {
-            "time" => report_all(&rt, true),
-            "--help" => println!(rt; "{HELP}"),
-            _ => {
-                eprintln!(rt; "{HELP}")?;
-                Err(io::Error::from(io::ErrorKind::InvalidInput))
-            }
-        },
+        Some("time") => report_all(&rt, true),
+        Some("--help") => println!(rt; "{HELP}"),
+        Some(_) => {
+            eprintln!(rt; "{HELP}")?;
+            Err(io::Error::from(io::ErrorKind::InvalidInput))
+        }
     }
 }

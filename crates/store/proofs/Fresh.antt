@@ -1,25 +1,16 @@
 -- What a book that was just opened holds: its header and the zeros behind it.
-use Rattle.std.proofs.Common.{◌≡◌, ℕ, ◌+◌, ◌-◌, ◌*◌, ◌<◌, ◌≤◌, true, leb, List, [], ◌∷◌, ◌++◌, map, length, get_or, take, drop, set, replicate, Some, None, sym, refl, ap, ◌∙◌, ap₂, arith, lit<}
-use borrow.Rule.Slice.PartMut.{post_of}
+use Rattle.std.proofs.Common.{◌≡◌, ℕ, ◌+◌, ◌-◌, ◌*◌, ◌<◌, ◌≤◌, true, List, [], ◌∷◌, ◌++◌, map, length, take, drop, replicate, sym, refl, ap, ◌∙◌, ap₂, arith, lit<}
 use Rattle.std.specs.List.{range_with_len}
-use Rattle.std.proofs.lemmas.List.Edits.{fill_by_more}
 use Rattle.std.proofs.lemmas.List.{append_assoc, length-append, length-replicate, length-take-le, drop-append-le, drop-replicate, replicate-append-replicate}
-use Rattle.std.proofs.lemmas.Bool.{leb-true, lt-ltb}
+use Rattle.std.proofs.lemmas.Bool.{lt-ltb}
 use Rattle.meaning.specs.Calls
 use Rattle.meaning.specs.Pages
 use Rattle.meaning.specs.Promise.{GoodLooks, GoodLimits, all_below}
-use Rattle.meaning.specs.Text.{pick}
-use Rattle.meaning.proofs.Picks.{some_picked}
 use Rattle.meaning.proofs.Below.{all_below_none, all_below_more, all_below_both, all_below_replicate}
 use Rattle.wire.specs.Bytes.{over}
 use Rattle.store.specs.declared.opening.Limits.{Limits}
 use Rattle.store.specs.declared.opening.Looks.{Looks}
 use Rattle.store.specs.Opened.{looks_of, packed, packed_widths, header, header_of, tokens_asked, kept_asked, words_asked, rest_asked, opened, rest_of, OpenedSound}
-
-pub widths_more : (g : Looks) (xs : List ℕ) (i w : ℕ) → i < 12 → length xs ≡ 12 → w ≡ packed (looks_of g).wide (32 + 8 * i) →
-    ((k : ℕ) → k < i → get_or xs k 0 ≡ packed (looks_of g).wide (32 + 8 * k)) →
-    (k : ℕ) → k < i + 1 → get_or (set xs i w) k 0 ≡ packed (looks_of g).wide (32 + 8 * k)
-widths_more g xs i w h n e below = rw e (fill_by_more (λ k. packed (looks_of g).wide (32 + 8 * k)) xs i 0 (omega arith) below)
 
 pub header_with : (l : Limits) (g : Looks) (ws : List ℕ) → ws ≡ packed_widths (looks_of g).wide →
     (l.paragraphs ∷ (l.tokens ∷ (l.definitions ∷ (l.bulk ∷ (0 ∷ (0 ∷ (0 ∷ (0 ∷ (0 ∷ (0 ∷ (g.width ∷ (g.rows ∷ [])))))))))))) ++ (ws ++ replicate 40 0) ≡ header_of l g
@@ -31,26 +22,20 @@ pub length_header : (l : Calls.Limits) (g : Pages.Looks) → length (header l g)
 unfolding header
 length_header l g = refl
 
-pub at_most_some : (a n b : ℕ) → Some b ≡ pick (leb a n) (Some a) None → (a ≤ n) × (b ≡ a)
-at_most_some a n b e = let p = some_picked (leb a n) b a e in (leb-true a n p.0, p.1)
-
 zeros : ℕ → List ℕ
 zeros n = replicate n 0
 
 -- zeros from the start of a slice up to n, and what was there behind
-module _ (n : ℕ) (xs ys : List ℕ) (long : n ≤ length xs) (clear : ys ≡ replicate (length (take (n - 0) xs)) 0) where
-  cleared : ys ++ post_of 0 (n - 0) xs ≡ zeros n ++ drop n xs
+module _ (n : ℕ) (xs ys : List ℕ) (long : n ≤ length xs) (clear : ys ≡ replicate (length (take n xs)) 0) where
+  cleared : ys ++ drop n xs ≡ zeros n ++ drop n xs
   unfolding zeros
-  cleared =
-      let e : n - 0 ≡ n = omega arith in
-      let k : length (take (n - 0) xs) ≡ n = ap (λ m. length (take m xs)) e ∙ length-take-le n xs long in
-      ap₂ (λ (f : List ℕ) (m : ℕ). f ++ drop m xs) (clear ∙ ap zeros k) e
+  cleared = ap (λ f. f ++ drop n xs) (clear ∙ ap zeros (length-take-le n xs long))
 
-  pub fresh_tokens : (l : Calls.Limits) (g : Pages.Looks) → n ≡ tokens_asked l → ys ++ post_of 0 (n - 0) xs ≡ over (opened l g).tokens xs
+  pub fresh_tokens : (l : Calls.Limits) (g : Pages.Looks) → n ≡ tokens_asked l → ys ++ drop n xs ≡ over (opened l g).tokens xs
   unfolding opened zeros
   fresh_tokens l g e = cleared ∙ ap₂ (λ m k. zeros m ++ drop k xs) e (e ∙ sym (length-replicate (tokens_asked l) 0))
 
-  zeros_behind : (hs : List ℕ) (h a b : ℕ) → length hs ≡ h → n ≡ h + a + b → hs ++ drop h (ys ++ post_of 0 (n - 0) xs) ≡ over ((hs ++ zeros a) ++ zeros b) xs
+  zeros_behind : (hs : List ℕ) (h a b : ℕ) → length hs ≡ h → n ≡ h + a + b → hs ++ drop h (ys ++ drop n xs) ≡ over ((hs ++ zeros a) ++ zeros b) xs
   unfolding zeros
   zeros_behind hs h a b e s =
       let fits : h ≤ length (zeros n) = rw length-replicate (omega arith) in
@@ -60,7 +45,7 @@ module _ (n : ℕ) (xs ys : List ℕ) (long : n ≤ length xs) (clear : ys ≡ r
       ∙ (ap (λ t. hs ++ t) (drop-append-le h (zeros n) (drop n xs) fits ∙ ap (λ t. t ++ drop n xs) (drop-replicate h n 0 ∙ (ap zeros left ∙ sym (replicate-append-replicate a b 0))))
       ∙ (simp append_assoc refl ∙ ap (λ m. ((hs ++ zeros a) ++ zeros b) ++ drop m xs) whole))
 
-  pub fresh_rest : (l : Calls.Limits) (g : Pages.Looks) (hs : List ℕ) → hs ≡ header l g → n ≡ rest_asked l → hs ++ post_of 0 64 (ys ++ post_of 0 (n - 0) xs) ≡ over (rest_of (opened l g)) xs
+  pub fresh_rest : (l : Calls.Limits) (g : Pages.Looks) (hs : List ℕ) → hs ≡ header l g → n ≡ rest_asked l → hs ++ drop 64 (ys ++ drop n xs) ≡ over (rest_of (opened l g)) xs
   unfolding opened zeros
   fresh_rest l g hs e s =
       zeros_behind hs 64 (4 * l.paragraphs) (words_asked l) (ap length e ∙ length_header l g) s

@@ -1,4 +1,3 @@
-pub mod Back
 pub mod Within
 pub mod Fresh
 pub mod Tables
@@ -6,3 +5,5 @@ pub mod Looking
 pub mod OpenedBook
 pub mod Splits
 pub mod Makes
+pub mod Packing
+pub mod Cutting

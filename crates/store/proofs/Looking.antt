@@ -1,55 +1,46 @@
 -- Memory that is an open book, and memory that is not.
-use Rattle.std.proofs.Common.{◌≡◌, ℕ, ◌<◌, ◌≤◌, true, false, ◌&&◌, leb, List, length, get_or, take, Some, None, Option, sym, refl, ◌∙◌, subst, arith, lit<}
+use Rattle.std.proofs.Common.{◌≡◌, ℕ, ◌*◌, ◌/◌, ◌<◌, ◌≤◌, min, Bool, true, false, ◌&&◌, not, eqb, leb, ◌⊎◌, List, length, get_or, take, drop, Some, None, sum_by, sym, refl, ap, ◌∙◌, ap₂, subst, inl, inr, arith, lit<}
 use Rattle.std.proofs.lemmas.List.{get_or-take, length-take-le}
-use Rattle.std.proofs.lemmas.Bool.{lt-leb, le-leb, leb-true, and_left, and_right, and_from, and_parts}
+use Rattle.std.specs.Simd.{first_chunks}
+use Rattle.std.proofs.lemmas.Bool.{lt-leb, le-leb, leb-true, eq-eqb, ne_eqb, and_left, and_right, and_cases, and_from, and_parts, not-true, not-false, cases_lt}
 use Rattle.meaning.specs.Text.{pick}
-use Rattle.meaning.proofs.Picks.{pick_true, pick_false}
+use Rattle.meaning.proofs.Picks.{some_picked}
 use Rattle.store.specs.Opened.{limits_of, tokens_asked, rest_asked}
-use Rattle.store.specs.Kept.{limits_at, limits_kept, kept_at, looks_kept, counts_kept, table_kept, table_sum, long_enough, is_open}
+use Rattle.store.specs.Kept.{limits_at, limits_kept, kept_at, looks_kept, counts_kept, table_kept, table_sum, long_enough, entries_at, is_open}
+use Rattle.store.specs.Counted.{largest, counts_in, counts_of, counts_within, OpenBook}
+use Rattle.store.specs.declared.kept.Counts.{Counts}
 use Rattle.store.specs.declared.kept.Kept.{Kept}
-use Rattle.store.proofs.Tables.{table_sum_take}
+use Rattle.store.proofs.Tables.{table_sum_take, entries_read, length_entries, sum_entries}
 
 module _ (bytes : ℕ) (rs : List ℕ) where
-  -- what looking gives
-  abbrev pub looked : Option Kept
-  looked = pick (is_open bytes rs) (Some (kept_at rs)) None
-
-  shut : is_open bytes rs ≡ false → None ≡ looked
-  shut e = sym (pick_false (is_open bytes rs) (Some (kept_at rs)) None e)
-
-  pub limits_fail : limits_kept rs ≡ false → None ≡ looked
+  limits_fail : limits_kept rs ≡ false → is_open bytes rs ≡ false
   unfolding is_open
-  limits_fail e = shut (and_left (limits_kept rs) _ e)
+  limits_fail e = and_left (limits_kept rs) _ e
 
-  not_long : long_enough bytes rs ≡ false → None ≡ looked
+  not_long : long_enough bytes rs ≡ false → is_open bytes rs ≡ false
   unfolding is_open
-  not_long e = shut (and_right (limits_kept rs) _ (and_left (long_enough bytes rs) _ e))
+  not_long e = and_right (limits_kept rs) _ (and_left (long_enough bytes rs) _ e)
 
-  pub tokens_short : bytes < tokens_asked (limits_of (limits_at rs)) → None ≡ looked
+  looks_fail : looks_kept rs ≡ false → is_open bytes rs ≡ false
+  unfolding is_open
+  looks_fail e = and_right (limits_kept rs) _ (and_right (long_enough bytes rs) _ (and_left (looks_kept rs) _ e))
+
+  counts_fail : counts_kept rs ≡ false → is_open bytes rs ≡ false
+  unfolding is_open
+  counts_fail e = and_right (limits_kept rs) _ (and_right (long_enough bytes rs) _ (and_right (looks_kept rs) _ (and_left (counts_kept rs) _ e)))
+
+  table_fails : table_kept rs ≡ false → is_open bytes rs ≡ false
+  unfolding is_open
+  table_fails e = and_right (limits_kept rs) _ (and_right (long_enough bytes rs) _ (and_right (looks_kept rs) _ (and_right (counts_kept rs) _ e)))
+
+  head_fails : (limits_kept rs && looks_kept rs) ≡ false → is_open bytes rs ≡ false
+  head_fails e = elim (and_cases (limits_kept rs) (looks_kept rs) e) [ inl l ↦ limits_fail l | inr l ↦ looks_fail l ]
+
+  pub tokens_short : bytes < tokens_asked (limits_of (limits_at rs)) → is_open bytes rs ≡ false
   tokens_short h = not_long (and_left _ _ (lt-leb (tokens_asked (limits_of (limits_at rs))) bytes h))
 
-  pub rest_short : length rs < rest_asked (limits_of (limits_at rs)) → None ≡ looked
+  pub rest_short : length rs < rest_asked (limits_of (limits_at rs)) → is_open bytes rs ≡ false
   rest_short h = not_long (and_right _ _ (lt-leb (rest_asked (limits_of (limits_at rs))) (length rs) h))
-
-  pub looks_fail : looks_kept rs ≡ false → None ≡ looked
-  unfolding is_open
-  looks_fail e = shut (and_right (limits_kept rs) _ (and_right (long_enough bytes rs) _ (and_left (looks_kept rs) _ e)))
-
-  pub counts_fail : counts_kept rs ≡ false → None ≡ looked
-  unfolding is_open
-  counts_fail e = shut (and_right (limits_kept rs) _ (and_right (long_enough bytes rs) _ (and_right (looks_kept rs) _ (and_left (counts_kept rs) _ e))))
-
-  pub table_fails : table_kept rs ≡ false → None ≡ looked
-  unfolding is_open
-  table_fails e = shut (and_right (limits_kept rs) _ (and_right (long_enough bytes rs) _ (and_right (looks_kept rs) _ (and_right (counts_kept rs) _ e))))
-
-  pub all_hold :
-      limits_kept rs ≡ true → tokens_asked (limits_of (limits_at rs)) ≤ bytes → rest_asked (limits_of (limits_at rs)) ≤ length rs → looks_kept rs ≡ true → counts_kept rs ≡ true →
-      table_kept rs ≡ true → Some (kept_at rs) ≡ looked
-  unfolding is_open
-  all_hold a b c d e f =
-      sym (pick_true (is_open bytes rs) (Some (kept_at rs)) None
-      (and_from _ _ a (and_from _ _ (and_from _ _ (le-leb _ _ b) (le-leb _ _ c)) (and_from _ _ d (and_from _ _ e f)))))
 
 -- what is_open tells
 pub record OpenParts (bytes : ℕ) (rs : List ℕ) : Type 0 where
@@ -84,7 +75,7 @@ open_from_parts bytes rs p =
     (and_from _ _ (and_from _ _ (le-leb _ _ p.bytes_enough) (le-leb _ _ p.numbers_enough)) (and_from _ _ p.looks (and_from _ _ p.counts p.table)))
 
 paragraphs_within : (rs : List ℕ) → counts_kept rs ≡ true → get_or rs 4 0 ≤ get_or rs 0 0
-paragraphs_within rs e = leb-true _ _ (and_parts (leb (get_or rs 4 0) (get_or rs 0 0)) _ (and_parts (leb (get_or rs 4 0) (get_or rs 0 0) && leb (get_or rs 5 0) (get_or rs 1 0)) _ e).0).0
+paragraphs_within rs e = leb-true _ _ (and_parts (leb (get_or rs 4 0) (get_or rs 0 0)) _ e).0
 
 -- two rows of numbers with the same header
 module _ (xs rs : List ℕ) (at : (i : ℕ) → i < 64 → get_or xs i 0 ≡ get_or rs i 0) where
@@ -99,6 +90,9 @@ module _ (xs rs : List ℕ) (at : (i : ℕ) → i < 64 → get_or xs i 0 ≡ get
 
   pub counts_kept_same : counts_kept xs ≡ counts_kept rs
   counts_kept_same = rw (at 4 (lit< tt), at 0 (lit< tt), at 5 (lit< tt), at 1 (lit< tt), at 6 (lit< tt)) refl
+
+  pub kept_same : kept_at xs ≡ kept_at rs
+  kept_same = rw (at 0 (lit< tt), at 1 (lit< tt), at 2 (lit< tt), at 3 (lit< tt), at 10 (lit< tt), at 11 (lit< tt), at 4 (lit< tt), at 5 (lit< tt), at 6 (lit< tt)) refl
 
   pub table_kept_same : ((first : ℕ) → first < 66 → table_sum first (get_or rs 4 0) xs ≡ table_sum first (get_or rs 4 0) rs) → table_kept xs ≡ table_kept rs
   table_kept_same sums = rw (at 4 (lit< tt), at 6 (lit< tt), at 5 (lit< tt), sums 64 (lit< tt), sums 65 (lit< tt)) refl
@@ -130,3 +124,101 @@ open_take bytes rs b k e h f = open_from_parts b (take k rs) parts
           counts = counts_kept_same (take k rs) rs at ∙ p.counts;
           table = table_kept_same (take k rs) rs at sums ∙ p.table;
         }
+
+-- a sum that is too large to tell is no count
+min_eqb : (x s : ℕ) → s < largest → eqb (min x largest) s ≡ eqb x s
+min_eqb x s h =
+    elim (cases_lt x largest) [
+      | inl l ↦ ap (λ m. eqb m s) (omega arith)
+      | inr g ↦ ne_eqb (min x largest) s (λ e. omega arith) ∙ sym (ne_eqb x s (λ e. omega arith))
+    ]
+
+-- as a derived `==` compares them
+abbrev pub equal_counts : Counts → Counts → Bool
+equal_counts a b = eqb a.paragraphs b.paragraphs && (eqb a.size b.size && eqb a.bytes b.bytes)
+
+and_turned : (a b : Bool) → (a && b) ≡ (b && a)
+and_turned true true = refl
+and_turned true false = refl
+and_turned false true = refl
+and_turned false false = refl
+
+-- a book judged by its header, as it is read
+module _ (ts rs hs : List ℕ) (head : hs ≡ take 64 rs) where
+  header_at : (i : ℕ) → i < 64 → get_or hs i 0 ≡ get_or rs i 0
+  header_at i h = ap (λ xs. get_or xs i 0) head ∙ get_or-take 64 rs i 0 h
+
+  pub header_fails : (limits_kept hs && looks_kept hs) ≡ false → is_open (length ts) rs ≡ false
+  header_fails e = head_fails (length ts) rs (sym (ap₂ ◌&&◌ (limits_kept_same hs rs header_at) (looks_kept_same hs rs header_at)) ∙ e)
+
+  module _ (k : Kept) (told : Some k ≡ pick (limits_kept hs && looks_kept hs) (Some (kept_at hs)) None) where
+    read : ((limits_kept hs && looks_kept hs) ≡ true) × (k ≡ kept_at hs)
+    read = some_picked (limits_kept hs && looks_kept hs) k (kept_at hs) told
+
+    pub kept_is : k ≡ kept_at rs
+    kept_is = read.1 ∙ kept_same hs rs header_at
+
+    pub too_short : (length ts < tokens_asked (limits_of k.limits)) ⊎ (length rs < rest_asked (limits_of k.limits)) → is_open (length ts) rs ≡ false
+    too_short (inl h) = tokens_short (length ts) rs (subst (λ j. length ts < tokens_asked (limits_of j.limits)) kept_is h)
+    too_short (inr h) = rest_short (length ts) rs (subst (λ j. length rs < rest_asked (limits_of j.limits)) kept_is h)
+
+    pub too_many : false ≡ counts_within (counts_of k) k.limits → is_open (length ts) rs ≡ false
+    too_many e = counts_fail (length ts) rs (ap (λ j. counts_within (counts_of j) j.limits) (sym kept_is) ∙ sym e)
+
+    -- the entries in front of what is behind the header
+    pub entries_are :
+        (ns : List ℕ) (chunks : List (List ℕ)) (m : ℕ) → true ≡ counts_within (counts_of k) k.limits → rest_asked (limits_of k.limits) ≤ length rs → ns ≡ drop 64 rs →
+        m ≡ length ns / 4 → chunks ≡ first_chunks 4 m ns → take k.paragraphs chunks ≡ entries_at rs
+    entries_are ns chunks m within room e f g =
+        let few = leb-true k.paragraphs k.limits.paragraphs (and_parts _ _ (sym within)).0 in
+        entries_read rs ns chunks k.paragraphs m e f g (ap (λ j. j.paragraphs) kept_is) (omega arith)
+
+    module _ (es : List (List ℕ)) (entries : es ≡ entries_at rs) (within : true ≡ counts_within (counts_of k) k.limits) where
+      counts : counts_kept rs ≡ true
+      counts = ap (λ j. counts_within (counts_of j) j.limits) (sym kept_is) ∙ sym within
+
+      abbrev same : Bool
+      same = equal_counts (counts_in es) (counts_of k)
+
+      table_told : same ≡ table_kept rs
+      table_told =
+          let number : k.paragraphs ≡ get_or rs 4 0 = ap (λ j. j.paragraphs) kept_is in
+          let size : k.size ≡ get_or rs 5 0 = ap (λ j. j.size) kept_is in
+          let bytes : k.bytes ≡ get_or rs 6 0 = ap (λ j. j.bytes) kept_is in
+          let kept_limits : limits_kept rs ≡ true = sym (limits_kept_same hs rs header_at) ∙ (and_parts _ _ read.0).0 in
+          let limits = and_parts (leb (get_or rs 0 0) 4096) _ kept_limits in
+          let tokens = and_parts (leb (get_or rs 1 0) 65536) _ limits.1 in
+          let few = leb-true (get_or rs 1 0) 65536 tokens.0 in
+          let c₀ = and_parts (leb (get_or rs 4 0) (get_or rs 0 0)) _ counts in
+          let c₁ = and_parts (leb (get_or rs 5 0) (get_or rs 1 0)) (leb (get_or rs 6 0) (2 * get_or rs 1 0)) c₀.1 in
+          let sizes_few = leb-true (get_or rs 5 0) (get_or rs 1 0) c₁.0 in
+          let bytes_few = leb-true (get_or rs 6 0) (2 * get_or rs 1 0) c₁.1 in
+          let all : eqb (length es) k.paragraphs ≡ true = eq-eqb _ _ (ap length entries ∙ (length_entries rs ∙ sym number)) in
+          let sizes : eqb (counts_in es).size k.size ≡ eqb (table_sum 65 (get_or rs 4 0) rs) (get_or rs 5 0) =
+          min_eqb _ _ (omega arith) ∙ ap₂ eqb (ap (sum_by (λ e. get_or e 1 0)) entries ∙ sum_entries 1 rs (lit< tt)) size in
+          let lengths : eqb (counts_in es).bytes k.bytes ≡ eqb (table_sum 64 (get_or rs 4 0) rs) (get_or rs 6 0) =
+          min_eqb _ _ (omega arith) ∙ ap₂ eqb (ap (sum_by (λ e. get_or e 0 0)) entries ∙ sum_entries 0 rs (lit< tt)) bytes in
+          ap₂ ◌&&◌ all (ap₂ ◌&&◌ sizes lengths)
+          ∙ and_turned (eqb (table_sum 65 (get_or rs 4 0) rs) (get_or rs 5 0)) (eqb (table_sum 64 (get_or rs 4 0) rs) (get_or rs 6 0))
+
+      pub table_off : (h n : Counts) → h ≡ counts_in es → n ≡ counts_of k → true ≡ not (equal_counts h n) → is_open (length ts) rs ≡ false
+      table_off h n f g e = table_fails (length ts) rs (sym table_told ∙ not-true same (ap₂ (λ a b. not (equal_counts a b)) (sym f) (sym g) ∙ sym e))
+
+      pub judged :
+          (h n : Counts) → h ≡ counts_in es → n ≡ counts_of k → tokens_asked (limits_of k.limits) ≤ length ts → rest_asked (limits_of k.limits) ≤ length rs → false ≡ not (equal_counts h n) →
+          OpenBook ts rs k es
+      judged h n f g a b e =
+          record {
+            opened =
+                open_from_parts (length ts) rs (record {
+                  limits = sym (limits_kept_same hs rs header_at) ∙ (and_parts _ _ read.0).0;
+                  bytes_enough = subst (λ j. tokens_asked (limits_of j.limits) ≤ length ts) kept_is a;
+                  numbers_enough = subst (λ j. rest_asked (limits_of j.limits) ≤ length rs) kept_is b;
+                  looks = sym (looks_kept_same hs rs header_at) ∙ (and_parts _ _ read.0).1;
+                  counts = counts;
+                  table = sym table_told ∙ not-false same (ap₂ (λ a b. not (equal_counts a b)) (sym f) (sym g) ∙ sym e);
+                });
+            same = kept_is;
+            entries = entries;
+            long = ap length entries ∙ (length_entries rs ∙ sym (ap (λ j. j.paragraphs) kept_is));
+          }

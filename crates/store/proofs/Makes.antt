@@ -1,18 +1,25 @@
 -- The plain facts from which an edit of an open book is made.
-use Rattle.std.proofs.Common.{◌≡◌, ℕ, zero, suc, ◌+◌, ◌-◌, ◌*◌, ◌≤◌, true, eqb, leb, List, [], ◌∷◌, length, get_or, take, set, Ok, Err, sym, refl, ◌∙◌, arith}
+use Rattle.std.proofs.Common.{◌≡◌, ℕ, ◌+◌, ◌-◌, ◌*◌, ◌≤◌, min, true, false, leb, List, [], ◌∷◌, ◌++◌, length, get_or, take, drop, set, Some, None, Option, MatchOption, Ok, Err, Result, Bor, sum_by, sym, refl, ap, ◌∙◌, ap₂, subst, arith, lit<}
+use Rattle.std.specs.List.{flat_map}
+use Rattle.std.specs.Option.{option_map}
+use Rattle.std.specs.Result.{result_ok}
+use Rattle.std.proofs.lemmas.List.{length-take-le, length-drop, length-set, take-append-drop, set-append_left}
 use Rattle.std.proofs.lemmas.Bool.{le-leb, leb-true, eqb-true, and_parts, and_from}
-use Rattle.meaning.specs.Text.{pick}
 use Rattle.meaning.proofs.Picks.{pick_true}
+use Rattle.wire.specs.declared.refusal.Refusal.{Refusal}
 use Rattle.wire.specs.declared.refusal.Refusal.TheVariants.{BadOpening, NoParagraph, TooMuch}
-use Rattle.store.specs.Kept.{kept_at, table_sum, is_open}
-use Rattle.store.specs.Changes.{spliced, Edit, has_room, bytes_gone, paragraphs_after, size_after, bytes_after, edited_tokens, edited_rest, Changes}
-use Rattle.store.specs.Edits.{edit_in, counts_within, entries_after, Ready}
+use Rattle.store.specs.Kept.{kept_at, table_sum, entries_at, is_open}
+use Rattle.store.specs.Counted.{largest, counts_in, counts_within, OpenBook}
+use Rattle.store.specs.Changes.{spliced, Edit, entry_of, has_room, bytes_gone, paragraphs_after, size_after, bytes_after, edited_tokens, edited_rest, Changes}
+use Rattle.store.specs.Edits.{bytes_in, counts_in_content, entry_with, edit_in, entries_after, Replaces}
 use Rattle.store.specs.Splices.{replaced}
-use Rattle.store.specs.declared.changes.Change.{Change}
-use Rattle.store.specs.declared.changes.Counts.{Counts}
+use Rattle.store.specs.declared.changes.Content.{Content}
+use Rattle.store.specs.declared.changes.Replacement.{Replacement}
+use Rattle.store.specs.declared.kept.Counts.{Counts}
 use Rattle.store.specs.declared.kept.Kept.{Kept}
+use Rattle.store.specs.declared.opening.Limits.{Limits}
 use Rattle.store.proofs.Looking.{open_parts}
-use Rattle.store.proofs.Tables.{table_sum_le}
+use Rattle.store.proofs.Tables.{table_sum_le, length_entries, sum_front, sum_part}
 
 pub record NumbersOf (ts rs : List ℕ) (k : Kept) : Type 0 where
   pub paragraphs_few : k.limits.paragraphs ≤ 4096
@@ -29,27 +36,27 @@ pub record NumbersOf (ts rs : List ℕ) (k : Kept) : Type 0 where
 pub numbers_at : (ts rs : List ℕ) → is_open (length ts) rs ≡ true → NumbersOf ts rs (kept_at rs)
 numbers_at ts rs e =
     let p = open_parts (length ts) rs e in
-    let l = and_parts _ _ p.limits in
-    let l₀ = and_parts _ _ l.0 in
-    let l₁ = and_parts _ _ l.1 in
-    let c = and_parts _ _ p.counts in
-    let c₀ = and_parts _ _ c.0 in
+    let l₀ = and_parts _ _ p.limits in
+    let l₁ = and_parts _ _ l₀.1 in
+    let l₂ = and_parts _ _ l₁.1 in
+    let c₀ = and_parts _ _ p.counts in
+    let c₁ = and_parts _ _ c₀.1 in
     let t = and_parts _ _ p.table in
     record {
       paragraphs_few = leb-true _ _ l₀.0;
-      tokens_few = leb-true _ _ l₀.1;
-      bulk_few = leb-true _ _ l₁.1;
+      tokens_few = leb-true _ _ l₁.0;
+      bulk_few = leb-true _ _ l₂.1;
       bytes_long = p.bytes_enough;
       rest_long = omega (arith, p.numbers_enough);
       paragraphs_within = leb-true _ _ c₀.0;
-      size_within = leb-true _ _ c₀.1;
-      bytes_within = leb-true _ _ c.1;
+      size_within = leb-true _ _ c₁.0;
+      bytes_within = leb-true _ _ c₁.1;
       bytes_add_up = eqb-true _ _ t.0;
       sizes_add_up = eqb-true _ _ t.1;
     }
 
-pub numbers_of : (ts rs : List ℕ) (k : Kept) (c : Change) → Ready ts rs k c → NumbersOf ts rs k
-numbers_of ts rs k c r = rw r.same (numbers_at ts rs r.opened)
+numbers_of : (ts rs : List ℕ) (k : Kept) (es : List (List ℕ)) → OpenBook ts rs k es → NumbersOf ts rs k
+numbers_of ts rs k es b = rw b.same (numbers_at ts rs b.opened)
 
 -- what goes lies within what there is
 pub record Within (first at gone n total : ℕ) (rs : List ℕ) : Type 0 where
@@ -60,54 +67,106 @@ pub within_all : (first at gone n total : ℕ) (rs : List ℕ) → table_sum fir
 within_all first at gone n total rs e h =
     record { from_to = table_sum_le first at (at + gone) rs (omega arith); to_end = omega (arith, table_sum_le first (at + gone) n rs h) }
 
--- all that is known of an edit of paragraphs that are there
-pub known :
-    (ts rs : List ℕ) (k : Kept) (c : Change) → Ready ts rs k c → c.at + c.gone ≤ k.paragraphs →
-    NumbersOf ts rs k × Within 64 c.at c.gone k.paragraphs k.bytes rs × Within 65 c.at c.gone k.paragraphs k.size rs
-known ts rs k c r there =
-    let n : NumbersOf ts rs k = numbers_of ts rs k c r in
-    (n, within_all 64 c.at c.gone k.paragraphs k.bytes rs n.bytes_add_up there, within_all 65 c.at c.gone k.paragraphs k.size rs n.sizes_add_up there)
+-- what is known of a replacement of paragraphs that are there
+pub replaces :
+    (ts rs : List ℕ) (k : Kept) (es : List (List ℕ)) (before part : Counts) (c : Replacement) → OpenBook ts rs k es → c.at + c.gone ≤ k.paragraphs →
+    before ≡ counts_in (take c.at es) → part ≡ counts_in (take (c.at + c.gone - c.at) (drop c.at es)) → Replaces ts rs k before part c
+replaces ts rs k es before part c book h f g =
+    let n : NumbersOf ts rs k = numbers_of ts rs k es book in
+    let b = within_all 64 c.at c.gone k.paragraphs k.bytes rs n.bytes_add_up h in
+    let s = within_all 65 c.at c.gone k.paragraphs k.size rs n.sizes_add_up h in
+    let many : k.paragraphs ≡ get_or rs 4 0 = ap (λ j. j.paragraphs) book.same in
+    let left : c.at + c.gone - c.at ≡ c.gone = omega arith in
+    let taken : take (c.at + c.gone - c.at) (drop c.at es) ≡ take c.gone (drop c.at (entries_at rs)) = ap₂ (λ m xs. take m (drop c.at xs)) left book.entries in
+    let front : before.bytes ≡ table_sum 64 c.at rs =
+    ap (λ x. x.bytes) f ∙ (ap (λ xs. min (sum_by (λ x. get_or x 0 0) (take c.at xs)) largest) book.entries ∙ omega (arith, sum_front 0 c.at rs (lit< tt) (omega arith))) in
+    let bytes : part.bytes ≡ table_sum 64 (c.at + c.gone) rs - table_sum 64 c.at rs =
+    ap (λ x. x.bytes) g ∙ (ap (λ xs. min (sum_by (λ x. get_or x 0 0) xs) largest) taken ∙ omega (arith, sum_part 0 c.at c.gone rs (lit< tt) (omega arith))) in
+    let size : part.size ≡ table_sum 65 (c.at + c.gone) rs - table_sum 65 c.at rs =
+    ap (λ x. x.size) g ∙ (ap (λ xs. min (sum_by (λ x. get_or x 1 0) xs) largest) taken ∙ omega (arith, sum_part 1 c.at c.gone rs (lit< tt) (omega arith))) in
+    record {
+      opened = book.opened;
+      same = book.same;
+      there = h;
+      paragraphs_gone = ap (λ x. x.paragraphs) g ∙ (ap length taken ∙ length-take-le c.gone (drop c.at (entries_at rs)) (omega (arith, length-drop c.at (entries_at rs), length_entries rs)));
+      bytes_before = front;
+      bytes_gone = omega arith;
+      size_gone = omega arith;
+      bytes_within = omega arith;
+      size_within = omega arith;
+      size_few = omega arith;
+      bytes_few = omega arith;
+      tokens_few = n.tokens_few;
+      paragraphs_few = n.paragraphs_few;
+      paragraphs_within = n.paragraphs_within;
+      bulk_few = n.bulk_few;
+      tokens_long = n.bytes_long;
+      rest_long = n.rest_long;
+    }
 
--- the new entry, or none
-pub entry_taken : (come n s : ℕ) → come ≤ 1 → take (4 * come - 0) (n ∷ (s ∷ (0 ∷ (0 ∷ [])))) ≡ pick (eqb come 0) [] (n ∷ (s ∷ (0 ∷ (0 ∷ []))))
-entry_taken zero n s h = refl
-entry_taken (suc zero) n s h = refl
-entry_taken (suc (suc come)) n s h = absurd (omega arith)
-
-pub length_entry : (come n s : ℕ) → come ≤ 1 → length (take (4 * come - 0) (n ∷ (s ∷ (0 ∷ (0 ∷ []))))) ≡ 4 * come
-length_entry zero n s h = refl
-length_entry (suc zero) n s h = refl
-length_entry (suc (suc come)) n s h = absurd (omega arith)
-
-pub within_parts : (n : Counts) (k : Kept) → true ≡ counts_within n k → (n.paragraphs ≤ k.limits.paragraphs) × (n.size ≤ k.limits.tokens) × (n.bytes ≤ 2 * k.limits.tokens)
-within_parts n k e =
-    let a = and_parts (leb n.paragraphs k.limits.paragraphs) _ (sym e) in
-    let b = and_parts (leb n.size k.limits.tokens) _ a.1 in
+pub within_parts : (n : Counts) (l : Limits) → true ≡ counts_within n l → (n.paragraphs ≤ l.paragraphs) × (n.size ≤ l.tokens) × (n.bytes ≤ 2 * l.tokens)
+within_parts n l e =
+    let a = and_parts (leb n.paragraphs l.paragraphs) _ (sym e) in
+    let b = and_parts (leb n.size l.tokens) _ a.1 in
     (leb-true _ _ a.0, leb-true _ _ b.0, leb-true _ _ b.1)
 
 -- an edit that was made
-module _ (ts rs ts' rs' : List ℕ) (c : Change) (open_book : is_open (length ts) rs ≡ true) where
+module _ (ts rs ts' rs' : List ℕ) (e : Edit) (open_book : is_open (length ts) rs ≡ true) where
   pub made_at :
-      c.at + c.gone ≤ get_or rs 4 0 → c.size ≤ get_or rs 3 0 → paragraphs_after (edit_in c) rs ≤ get_or rs 0 0 → size_after (edit_in c) rs ≤ get_or rs 1 0 → bytes_after (edit_in c) rs ≤ 2 * get_or rs 1 0 →
-      ts' ≡ edited_tokens (edit_in c) ts rs → rs' ≡ edited_rest (edit_in c) rs → Changes (edit_in c) ts rs ts' rs' (Ok tt)
+      e.at + e.gone ≤ get_or rs 4 0 → e.size ≤ get_or rs 3 0 → paragraphs_after e rs ≤ get_or rs 0 0 → size_after e rs ≤ get_or rs 1 0 → bytes_after e rs ≤ 2 * get_or rs 1 0 →
+      ts' ≡ edited_tokens e ts rs → rs' ≡ edited_rest e rs → Changes e ts rs ts' rs' (Ok tt)
   made_at there small few size bytes t r =
-      let room : has_room (edit_in c) rs ≡ true = and_from _ _ (and_from _ _ (le-leb _ _ small) (le-leb _ _ few)) (and_from _ _ (le-leb _ _ size) (le-leb _ _ bytes)) in
+      let room : has_room e rs ≡ true = and_from _ _ (and_from _ _ (le-leb _ _ small) (le-leb _ _ few)) (and_from _ _ (le-leb _ _ size) (le-leb _ _ bytes)) in
       record {
         value =
             sym (pick_true (is_open (length ts) rs) _ (Err BadOpening) open_book
-            ∙ (pick_true (leb (c.at + c.gone) (get_or rs 4 0)) _ (Err (NoParagraph c.at)) (le-leb _ _ there) ∙ pick_true (has_room (edit_in c) rs) (Ok tt) (Err TooMuch) room));
+            ∙ (pick_true (leb (e.at + e.gone) (get_or rs 4 0)) _ (Err (NoParagraph e.at)) (le-leb _ _ there) ∙ pick_true (has_room e rs) (Ok tt) (Err TooMuch) room));
         tokens = t;
         rest = r;
       }
 
 pub tokens_edited :
-    (e : Edit) (ts rs : List ℕ) (from gone behind : ℕ) → from ≡ table_sum 64 e.at rs → gone ≡ bytes_gone e rs → behind ≡ get_or rs 6 0 - table_sum 64 (e.at + e.gone) rs →
+    (e : Edit) (ts rs : List ℕ) (from gone behind : ℕ) → from ≡ table_sum 64 e.at rs → from + gone ≡ table_sum 64 (e.at + e.gone) rs → behind ≡ get_or rs 6 0 - (from + gone) →
     replaced 0 ts from gone behind e.bytes ≡ edited_tokens e ts rs
 unfolding edited_tokens spliced
-tokens_edited e ts rs from gone behind f g h = rw (f, g, h) refl
+tokens_edited e ts rs from gone behind f g h =
+    let part : gone ≡ bytes_gone e rs = omega arith in
+    let end : behind ≡ get_or rs 6 0 - table_sum 64 (e.at + e.gone) rs = omega arith in
+    rw (f, part, end) refl
+
+-- the counts are written into the header
+pub header_written :
+    (xs hs ys : List ℕ) (p s b : ℕ) → 64 ≤ length xs → hs ≡ take 64 xs → ys ≡ set (set (set hs 4 p) 5 s) 6 b → ys ++ drop 64 xs ≡ set (set (set xs 4 p) 5 s) 6 b
+header_written xs hs ys p s b long cut written =
+    let h : List ℕ = take 64 xs in
+    let t : List ℕ = drop 64 xs in
+    let n : length h ≡ 64 = length-take-le 64 xs long in
+    ap (λ zs. zs ++ t) (written ∙ ap (λ zs. set (set (set zs 4 p) 5 s) 6 b) cut)
+    ∙ sym (ap (λ zs. set (set (set zs 4 p) 5 s) 6 b) (sym (take-append-drop 64 xs))
+    ∙ (ap (λ zs. set (set zs 5 s) 6 b) (set-append_left h t 4 p (omega arith))
+    ∙ (ap (λ zs. set zs 6 b) (set-append_left (set h 4 p) t 5 s (omega (arith, length-set h 4 p)))
+    ∙ set-append_left (set (set h 4 p) 5 s) t 6 b (omega (arith, length-set (set h 4 p) 5 s, length-set h 4 p)))))
 
 pub rest_edited :
-    (c : Change) (rs xs : List ℕ) (n p s b : ℕ) → xs ≡ entries_after rs n c → n ≡ get_or rs 4 0 → p ≡ paragraphs_after (edit_in c) rs → s ≡ size_after (edit_in c) rs → b ≡ bytes_after (edit_in c) rs →
+    (c : Replacement) (rs xs : List ℕ) (n p s b : ℕ) → xs ≡ entries_after rs n c → n ≡ get_or rs 4 0 → p ≡ paragraphs_after (edit_in c) rs → s ≡ size_after (edit_in c) rs → b ≡ bytes_after (edit_in c) rs →
     set (set (set xs 4 p) 5 s) 6 b ≡ edited_rest (edit_in c) rs
 unfolding edited_rest
 rest_edited c rs xs n p s b e f g h i = rw (e, f, g, h, i) refl
+
+-- the new entry, or none
+pub entry_flat :
+    (at gone : ℕ) (new : Option Content) (o : Option (List ℕ)) (es : List (List ℕ)) (flat : List ℕ) → o ≡ option_map entry_with new → MatchOption o (es ≡ []) (λ x. es ≡ x ∷ []) →
+    flat ≡ flat_map (λ x. x) es → flat ≡ entry_of (edit_in (record { at = at; gone = gone; new = new }))
+entry_flat at gone None o es flat e m f = f ∙ ap (flat_map (λ x. x)) (subst (λ p. MatchOption p (es ≡ []) (λ x. es ≡ x ∷ [])) e m)
+entry_flat at gone (Some new) o es flat e m f = f ∙ ap (flat_map (λ x. x)) (subst (λ p. MatchOption p (es ≡ []) (λ x. es ≡ x ∷ [])) e m)
+
+-- an open book that `ok_or` and `?` let through
+pub found :
+    (ts rs : List ℕ) (o : Option (Kept × Bor (List (List ℕ)))) (r : Result (Kept × Bor (List (List ℕ))) Refusal) (k : Kept) (es : Bor (List (List ℕ))) →
+    MatchOption o (is_open (length ts) rs ≡ false) (λ p. OpenBook ts rs p.0 p.1.now) → o ≡ result_ok r → r ≡ Ok (k, es) → OpenBook ts rs k es.now
+found ts rs o r k es m f g = subst (λ p. MatchOption p (is_open (length ts) rs ≡ false) (λ q. OpenBook ts rs q.0 q.1.now)) (f ∙ ap result_ok g) m
+
+-- what comes, and how long it is
+pub come_bytes : (new : Option Content) → length (bytes_in new) ≡ (counts_in_content new).bytes
+come_bytes (Some new) = refl
+come_bytes None = refl

@@ -24,7 +24,7 @@ module _ (l : Calls.Limits) (g : Pages.Looks) where
   -- by the header alone
   limits_good : GoodLimits l → limits_kept (header l g) ≡ true
   unfolding header
-  limits_good few = and_from _ _ (and_from _ _ (le-leb _ _ few.0) (le-leb _ _ few.1)) (and_from _ _ (le-leb _ _ few.2) (le-leb _ _ few.3))
+  limits_good few = and_from _ _ (le-leb _ _ few.0) (and_from _ _ (le-leb _ _ few.1) (and_from _ _ (le-leb _ _ few.2) (le-leb _ _ few.3)))
 
   looks_good : GoodLooks g → looks_kept (header l g) ≡ true
   unfolding header
@@ -35,7 +35,7 @@ module _ (l : Calls.Limits) (g : Pages.Looks) where
   counts_good : counts_kept (header l g) ≡ true
   unfolding header
   counts_good =
-      and_from _ _ (and_from _ _ (le-leb 0 l.paragraphs (omega arith)) (le-leb 0 l.tokens (omega arith))) (le-leb 0 (2 * l.tokens) (omega arith))
+      and_from _ _ (le-leb 0 l.paragraphs (omega arith)) (and_from _ _ (le-leb 0 l.tokens (omega arith)) (le-leb 0 (2 * l.tokens) (omega arith)))
 
   table_good : table_kept (header l g) ≡ true
   unfolding header table_sum

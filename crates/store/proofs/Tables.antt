@@ -1,8 +1,11 @@
 -- The entries of paragraphs, added up.
-use Rattle.std.proofs.Common.{◌≡◌, ℕ, zero, suc, ◌+◌, ◌*◌, ◌<◌, ◌≤◌, false, eqb, List, get_or, take, refl, ap, ap₂, inl, inr, add-one, arith}
-use Rattle.std.proofs.lemmas.List.{get_or-take}
-use Rattle.std.proofs.lemmas.Bool.{ne_eqb, cases_order}
-use Rattle.store.specs.Kept.{table_sum}
+use Rattle.std.proofs.Common.{◌≡◌, ℕ, zero, suc, ◌+◌, ◌-◌, ◌*◌, ◌/◌, ◌<◌, ◌≤◌, List, [], ◌∷◌, length, get_or, take, drop, sum_by, refl, ap, ◌∙◌, ap₂, inl, inr, add-one, arith}
+use Rattle.std.proofs.lemmas.List.{get_or-take, get_or-drop, drop-drop, drop-take, take-take, length-drop}
+use Rattle.std.proofs.lemmas.List.Sums.{sum_by-append}
+use Rattle.std.specs.Simd.{first_chunks}
+use Rattle.std.proofs.lemmas.Bool.{cases_order}
+use Rattle.store.specs.Kept.{table_sum, entries_at}
+use Rattle.store.proofs.Splits.{take_further}
 
 pub table_sum_zero : (first : ℕ) (rs : List ℕ) → table_sum first 0 rs ≡ 0
 unfolding table_sum
@@ -21,12 +24,84 @@ table_sum_le first n (suc m) rs h =
       | inr o ↦ elim o [ inl l ↦ omega (arith, table_sum_le first n m rs (omega arith)) | inr g ↦ absurd (omega arith) ]
     ]
 
--- once too much, always too much
-pub table_too_much : (first i n : ℕ) (rs : List ℕ) (left total : ℕ) → i < n → table_sum first i rs + left ≡ total → left < get_or rs (first + 4 * i) 0 → eqb (table_sum first n rs) total ≡ false
-table_too_much first i n rs left total h e over =
-    ne_eqb (table_sum first n rs) total (λ same. omega (arith, table_sum_more first i rs, table_sum_le first (i + 1) n rs (omega arith)))
-
 pub table_sum_take : (first n k : ℕ) (rs : List ℕ) → first + 4 * n ≤ k + 3 → table_sum first n (take k rs) ≡ table_sum first n rs
 unfolding table_sum
 table_sum_take first zero k rs h = refl
 table_sum_take first (suc n) k rs h = ap₂ ◌+◌ (table_sum_take first n k rs (omega arith)) (get_or-take k rs (first + 4 * n) 0 (omega arith))
+
+pub table_sum_front : (first n : ℕ) (rs : List ℕ) → table_sum first (n + 1) rs ≡ get_or rs first 0 + table_sum (first + 4) n rs
+table_sum_front first zero rs =
+    let at : get_or rs (first + 4 * 0) 0 ≡ get_or rs first 0 = ap (λ j. get_or rs j 0) (omega arith) in
+    omega (arith, table_sum_more first 0 rs, table_sum_zero first rs, table_sum_zero (first + 4) rs)
+table_sum_front first (suc n) rs =
+    let at : get_or rs (first + 4 * (n + 1)) 0 ≡ get_or rs (first + 4 + 4 * n) 0 = ap (λ j. get_or rs j 0) (omega arith) in
+    let one : table_sum first (suc n + 1) rs ≡ table_sum first (n + 1 + 1) rs = ap (λ m. table_sum first m rs) (omega arith) in
+    let two : table_sum (first + 4) (suc n) rs ≡ table_sum (first + 4) (n + 1) rs = ap (λ m. table_sum (first + 4) m rs) (omega arith) in
+    omega (arith, table_sum_more first (n + 1) rs, table_sum_more (first + 4) n rs, table_sum_front first n rs)
+
+-- a field of the entries, added up
+sum_of_entries : (first j n : ℕ) (rs : List ℕ) → j < 4 → sum_by (λ e. get_or e j 0) (first_chunks 4 n (drop first rs)) ≡ table_sum (first + j) n rs
+unfolding table_sum
+sum_of_entries first j zero rs h = refl
+sum_of_entries first j (suc n) rs h =
+    let here : get_or (take 4 (drop first rs)) j 0 ≡ get_or rs (first + j) 0 = get_or-take 4 (drop first rs) j 0 h ∙ get_or-drop first rs j 0 in
+    let behind : sum_by (λ e. get_or e j 0) (first_chunks 4 n (drop 4 (drop first rs))) ≡ table_sum (first + j + 4) n rs =
+    ap (λ xs. sum_by (λ e. get_or e j 0) (first_chunks 4 n xs)) (drop-drop 4 first rs) ∙ (sum_of_entries (first + 4) j n rs h ∙ ap (λ m. table_sum m n rs) (omega arith)) in
+    let next : suc n ≡ n + 1 = omega arith in
+    let one : table_sum (first + j) (suc n) rs ≡ table_sum (first + j) (n + 1) rs = ap (λ m. table_sum (first + j) m rs) next in
+    sum_by-append (λ e. get_or e j 0) (take 4 (drop first rs) ∷ []) (first_chunks 4 n (drop 4 (drop first rs))) ∙ omega (arith, table_sum_front (first + j) n rs)
+
+-- the first entries are entries
+chunks_take : (n k m : ℕ) (xs : List ℕ) → k ≤ m → take k (first_chunks n m xs) ≡ first_chunks n k xs
+chunks_take n zero m xs h = refl
+chunks_take n (suc k) zero xs h = absurd (omega arith)
+chunks_take n (suc k) (suc m) xs h = ap (λ cs. take n xs ∷ cs) (chunks_take n k m (drop n xs) (omega arith))
+
+length_chunks : (n m : ℕ) (xs : List ℕ) → length (first_chunks n m xs) ≡ m
+length_chunks n zero xs = refl
+length_chunks n (suc m) xs = ap suc (length_chunks n m (drop n xs))
+
+pub length_entries : (rs : List ℕ) → length (entries_at rs) ≡ get_or rs 4 0
+unfolding entries_at
+length_entries rs = length_chunks 4 (get_or rs 4 0) (drop 64 rs)
+
+pub sum_entries : (j : ℕ) (rs : List ℕ) → j < 4 → sum_by (λ e. get_or e j 0) (entries_at rs) ≡ table_sum (64 + j) (get_or rs 4 0) rs
+unfolding entries_at
+sum_entries j rs h = sum_of_entries 64 j (get_or rs 4 0) rs h
+
+-- of the first entries, and of some behind them
+pub sum_front : (j a : ℕ) (rs : List ℕ) → j < 4 → a ≤ get_or rs 4 0 → sum_by (λ e. get_or e j 0) (take a (entries_at rs)) ≡ table_sum (64 + j) a rs
+unfolding entries_at
+sum_front j a rs h l = ap (sum_by (λ e. get_or e j 0)) (chunks_take 4 a (get_or rs 4 0) (drop 64 rs) l) ∙ sum_of_entries 64 j a rs h
+
+pub sum_part :
+    (j a b : ℕ) (rs : List ℕ) → j < 4 → a + b ≤ get_or rs 4 0 → sum_by (λ e. get_or e j 0) (take b (drop a (entries_at rs))) ≡ table_sum (64 + j) (a + b) rs - table_sum (64 + j) a rs
+sum_part j a b rs h l =
+    let f : List ℕ → ℕ = λ e. get_or e j 0 in
+    let es : List (List ℕ) = entries_at rs in
+    let split : sum_by f (take (a + b) es) ≡ sum_by f (take a es) + sum_by f (take b (drop a es)) = ap (sum_by f) (take_further a b es) ∙ sum_by-append f (take a es) (take b (drop a es)) in
+    omega (arith, sum_front j a rs h (omega arith), sum_front j (a + b) rs h l)
+
+-- what stands behind a table does not matter to it
+chunks_before : (m k : ℕ) (xs : List ℕ) → 4 * m ≤ k → first_chunks 4 m (take k xs) ≡ first_chunks 4 m xs
+chunks_before zero k xs h = refl
+chunks_before (suc m) k xs h =
+    let more : k ≡ 4 + (k - 4) = omega arith in
+    let behind : drop 4 (take k xs) ≡ take (k - 4) (drop 4 xs) = ap (λ j. drop 4 (take j xs)) more ∙ drop-take 4 (k - 4) xs in
+    ap₂ ◌∷◌ (take-take 4 k xs (omega arith)) (ap (first_chunks 4 m) behind ∙ chunks_before m (k - 4) (drop 4 xs) (omega arith))
+
+pub entries_take : (k : ℕ) (rs : List ℕ) → 64 + 4 * get_or rs 4 0 ≤ k → entries_at (take k rs) ≡ entries_at rs
+unfolding entries_at
+entries_take k rs h =
+    let more : k ≡ 64 + (k - 64) = omega arith in
+    let number : get_or (take k rs) 4 0 ≡ get_or rs 4 0 = get_or-take k rs 4 0 (omega arith) in
+    let numbers : drop 64 (take k rs) ≡ take (k - 64) (drop 64 rs) = ap (λ j. drop 64 (take j rs)) more ∙ drop-take 64 (k - 64) rs in
+    ap₂ (first_chunks 4) number numbers ∙ chunks_before (get_or rs 4 0) (k - 64) (drop 64 rs) (omega arith)
+
+-- chunks of what is behind the header begin with the entries
+pub entries_read :
+    (rs ns : List ℕ) (chunks : List (List ℕ)) (n m : ℕ) → ns ≡ drop 64 rs → m ≡ length ns / 4 → chunks ≡ first_chunks 4 m ns → n ≡ get_or rs 4 0 → 64 + 4 * n ≤ length rs → take n chunks ≡ entries_at rs
+unfolding entries_at
+entries_read rs ns chunks n m e f g h room =
+    let long = ap length e ∙ length-drop 64 rs in
+    ap (take n) g ∙ (chunks_take 4 n m ns (omega arith) ∙ ap₂ (first_chunks 4) h e)

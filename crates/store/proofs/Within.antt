@@ -1,25 +1,9 @@
--- A test of each element of a list, as a loop from the front runs it.
-use Rattle.std.proofs.Common.{◌≡◌, ℕ, zero, suc, ◌+◌, ◌-◌, ◌<◌, ◌≤◌, Bool, true, false, ◌&&◌, leb, ◌⊎◌, List, [], ◌∷◌, length, get_or, drop, ◌∙◌, inl, inr, lit≤}
-use Rattle.std.proofs.lemmas.List.{at_drop_more, at_drop_all}
-use Rattle.std.proofs.lemmas.Bool.{le-leb, lt-leb, leb-true, and_left, and_right, and_parts}
-use Rattle.store.specs.Opened.{all_within, limits_in_range, looks_in_range, InRangeGood}
-
-pub all_within_more : (low high : ℕ) (xs : List ℕ) (i : ℕ) → i < length xs → low ≤ get_or xs i 0 → get_or xs i 0 ≤ high → all_within low high (drop i xs) ≡ all_within low high (drop (i + 1) xs)
-unfolding all_within
-all_within_more low high xs i h a b =
-    at_drop_more (all_within low high) xs i 0 h ∙ rw (le-leb low (get_or xs i 0) a, le-leb (get_or xs i 0) high b)
-
-pub all_within_fails : (low high : ℕ) (xs : List ℕ) (i : ℕ) → i < length xs → (get_or xs i 0 < low) ⊎ (high < get_or xs i 0) → all_within low high (drop i xs) ≡ false
-unfolding all_within
-all_within_fails low high xs i h (inl a) = at_drop_more (all_within low high) xs i 0 h ∙ rw (lt-leb low (get_or xs i 0) a)
-all_within_fails low high xs i h (inr b) = at_drop_more (all_within low high) xs i 0 h ∙ and_left _ _ (and_right _ _ (lt-leb (get_or xs i 0) high b))
-
-pub all_within_none : (low high : ℕ) (xs : List ℕ) (i : ℕ) → length xs ≤ i → all_within low high (drop i xs) ≡ true
-unfolding all_within
-all_within_none low high xs i h = at_drop_all (all_within low high) xs i h
+-- What is in range is good for the meaning.
+use Rattle.std.proofs.Common.{◌≡◌, ℕ, zero, suc, ◌-◌, ◌≤◌, Bool, true, ◌&&◌, leb, List, [], ◌∷◌, get_or, lit≤}
+use Rattle.std.proofs.lemmas.Bool.{leb-true, and_parts}
+use Rattle.store.specs.Opened.{all_within, limits_in_range, page_in_range, looks_in_range, InRangeGood}
 
 pub all_within_at : (low high d : ℕ) (xs : List ℕ) (i : ℕ) → all_within low high xs ≡ true → low ≤ d → d ≤ high → (low ≤ get_or xs i d) × (get_or xs i d ≤ high)
-unfolding all_within
 all_within_at low high d [] i e a b = (a, b)
 all_within_at low high d (x ∷ xs) zero e a b =
     let p = and_parts (leb low x && leb x high) (all_within low high xs) e in
@@ -36,13 +20,13 @@ in_range_good l g e =
     let paragraphs = leb_and l.paragraphs 4096 _ parts.0 in
     let tokens = leb_and l.tokens 65536 _ paragraphs.1 in
     let definitions = leb_and l.definitions 1024 _ tokens.1 in
-    let looks = and_parts (leb 1 g.width && leb g.width 1000) _ parts.1 in
-    let width = leb_and 1 g.width _ looks.0 in
-    let rest = and_parts (leb 1 g.rows && leb g.rows 255) _ looks.1 in
-    let rows = leb_and 1 g.rows _ rest.0 in (
+    let looks = and_parts (page_in_range g.width g.rows) _ parts.1 in
+    let page = and_parts (leb 1 g.width && leb g.width 1000) _ looks.0 in
+    let width = leb_and 1 g.width _ page.0 in
+    let rows = leb_and 1 g.rows _ page.1 in (
       (paragraphs.0, tokens.0, definitions.0, leb-true l.bulk 4096 definitions.1),
       record {
-        wide_enough = λ c. all_within_at 1 63 1 g.widths (c - 32) rest.1 (lit≤ tt) (lit≤ tt);
+        wide_enough = λ c. all_within_at 1 63 1 g.widths (c - 32) looks.1 (lit≤ tt) (lit≤ tt);
         across_enough = (width.0, leb-true g.width 1000 width.1);
         rows_enough = (rows.0, leb-true g.rows 255 rows.1);
       },

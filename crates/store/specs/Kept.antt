@@ -1,19 +1,21 @@
 -- What is kept of an open book, at the front of the numbers: the header, and four numbers for each paragraph.
 --   limits_at, kept_at   what the header says
 --   table_sum            a field of the paragraphs' entries, added up
+--   entries_at           the paragraphs' entries
 --   is_open              whether memory is an open book
 --   widths_at            the letters' widths, unpacked
-use Rattle.std.specs.Prelude.{ℕ, zero, suc, ◌+◌, ◌*◌, ◌/◌, ◌%◌, Bool, ◌&&◌, List, [], ◌∷◌, map, length, ◌==◌, nat_le, slice_index}
+use Rattle.std.specs.Prelude.{ℕ, zero, suc, ◌+◌, ◌*◌, ◌/◌, ◌%◌, Bool, ◌&&◌, List, [], ◌∷◌, map, length, drop, ◌==◌, nat_le, slice_index}
 use Rattle.std.specs.List.{range_with_len}
+use Rattle.std.specs.Simd.{first_chunks}
 use Rattle.store.specs.declared.opening.Limits.{Limits}
 use Rattle.store.specs.declared.kept.Kept.{Kept}
-use Rattle.store.specs.Opened.{limits_of, tokens_asked, rest_asked}
+use Rattle.store.specs.Opened.{limits_in_range, page_in_range, limits_of, tokens_asked, rest_asked}
 
 abbrev pub limits_at : List ℕ → Limits
 limits_at rs = record { paragraphs = slice_index rs 0; tokens = slice_index rs 1; definitions = slice_index rs 2; bulk = slice_index rs 3 }
 
 abbrev pub limits_kept : List ℕ → Bool
-limits_kept rs = (nat_le (slice_index rs 0) 4096 && nat_le (slice_index rs 1) 65536) && (nat_le (slice_index rs 2) 1024 && nat_le (slice_index rs 3) 4096)
+limits_kept rs = limits_in_range (limits_at rs)
 
 abbrev pub kept_at : List ℕ → Kept
 kept_at rs =
@@ -21,15 +23,19 @@ kept_at rs =
 
 -- the looks, and what there is within the limits; a token has two bytes at the most, and definitions have the second half of them
 abbrev pub looks_kept : List ℕ → Bool
-looks_kept rs = (nat_le 1 (slice_index rs 10) && nat_le (slice_index rs 10) 1000) && (nat_le 1 (slice_index rs 11) && nat_le (slice_index rs 11) 255)
+looks_kept rs = page_in_range (slice_index rs 10) (slice_index rs 11)
 
 abbrev pub counts_kept : List ℕ → Bool
-counts_kept rs = (nat_le (slice_index rs 4) (slice_index rs 0) && nat_le (slice_index rs 5) (slice_index rs 1)) && nat_le (slice_index rs 6) (2 * slice_index rs 1)
+counts_kept rs = nat_le (slice_index rs 4) (slice_index rs 0) && (nat_le (slice_index rs 5) (slice_index rs 1) && nat_le (slice_index rs 6) (2 * slice_index rs 1))
 
 -- of the first n paragraphs, what stands in their entries at the place that is `first` in the first one
 unfoldable pub table_sum : ℕ → ℕ → List ℕ → ℕ
 table_sum first zero rs = 0
 table_sum first (suc n) rs = table_sum first n rs + slice_index rs (first + 4 * n)
+
+-- the paragraphs' entries, four numbers each
+unfoldable pub entries_at : List ℕ → List (List ℕ)
+entries_at rs = first_chunks 4 (slice_index rs 4) (drop 64 rs)
 
 -- an entry has the paragraph's bytes, then its size
 abbrev pub table_kept : List ℕ → Bool

@@ -6,7 +6,7 @@
 --   Opens                 what opening answers, and leaves in both slices
 --   InRangeGood, OpenedSound   laws: what is let through is good, and what is opened is as large as asked for
 use Rattle.std.specs.Prelude.{◌≡◌, ℕ, ◌+◌, ◌-◌, ◌*◌, ◌≤◌, Bool, true, cond, ◌&&◌, List, [], ◌∷◌, ◌++◌, map, length, replicate, is_ok, Some, None, Ok, Err, Option, Result, nat_le, slice_index_or}
-use Rattle.std.specs.List.{range_with_len}
+use Rattle.std.specs.List.{range_with_len, list_all}
 use Rattle.meaning.specs.Text.{pick}
 use Rattle.meaning.specs.Pages
 use Rattle.meaning.specs.Calls
@@ -26,15 +26,18 @@ limits_of l = record { tokens_can = stage_tokens; calls_can = stage_calls; parag
 abbrev pub looks_of : Looks → Pages.Looks
 looks_of g = record { wide = λ c. slice_index_or g.widths (c - 32) 1; across = g.width; rows = g.rows }
 
-unfoldable pub all_within : ℕ → ℕ → List ℕ → Bool
-all_within low high [] = true
-all_within low high (x ∷ xs) = (nat_le low x && nat_le x high) && all_within low high xs
+abbrev pub all_within : ℕ → ℕ → List ℕ → Bool
+all_within low high = list_all (λ x. nat_le low x && nat_le x high)
 
 abbrev pub limits_in_range : Limits → Bool
 limits_in_range l = nat_le l.paragraphs 4096 && (nat_le l.tokens 65536 && (nat_le l.definitions 1024 && nat_le l.bulk 4096))
 
+-- how wide lines are, and how many rows a page has
+abbrev pub page_in_range : ℕ → ℕ → Bool
+page_in_range width rows = (nat_le 1 width && nat_le width 1000) && (nat_le 1 rows && nat_le rows 255)
+
 abbrev pub looks_in_range : Looks → Bool
-looks_in_range g = (nat_le 1 g.width && nat_le g.width 1000) && ((nat_le 1 g.rows && nat_le g.rows 255) && all_within 1 63 g.widths)
+looks_in_range g = page_in_range g.width g.rows && all_within 1 63 g.widths
 
 abbrev pub in_range : Limits → Looks → Bool
 in_range l g = limits_in_range l && looks_in_range g

@@ -1,9 +1,10 @@
-// What is kept of an open book: its limits and looks, and how much it holds.
-ghost use Rattle.std.specs.Prelude.{◌≡◌, ◌+◌, ◌*◌, ◌≤◌, true, ◌&&◌, length, Some, None, ◌==◌};
+// What is kept of an open book: its limits and looks, how much it holds, and an entry of four numbers for each paragraph.
+ghost use Rattle.std.specs.Prelude.{◌≡◌, ◌≤◌, ◌&&◌, length, false, Some, None, MatchOption, slice_set};
 ghost use Rattle.meaning.specs.Text.{pick};
-ghost use Rattle.store.specs.Kept.{limits_kept, limits_at, looks_kept, counts_kept, table_sum, is_open, kept_at};
+ghost use Rattle.store.specs.Kept.{limits_kept, limits_at, looks_kept, kept_at, is_open};
+ghost use Rattle.store.specs.Counted.{counts_in, counts_of, counts_within, OpenBook};
 
-use crate::opening::Limits;
+use crate::opening::{Limits, page_in_range};
 
 #[derive(Clone, Copy)]
 pub struct Kept {
@@ -16,98 +17,123 @@ pub struct Kept {
     pub bytes: usize,
 }
 
-fn limits_in(rest: &[u64]) -> Option<Limits>
-    requires { 64 ≤ length rest.now }
-    ensures { result ≡ pick (limits_kept rest.now) (Some (limits_at rest.now)) None }
+// A paragraph's bytes, its size, and two numbers that are 0.
+pub type Entry = [u64; 4];
+
+// How many paragraphs, what size and how many bytes there are together.
+#[derive(Clone, Copy, Default, PartialEq, Eq)]
+pub(crate) struct Counts {
+    pub(crate) paragraphs: usize,
+    pub(crate) size: usize,
+    pub(crate) bytes: usize,
+}
+
+impl Counts {
+    // Sums that are too large to tell stay at the largest number, which no open book has.
+    pub(crate) fn of(entries: &[Entry]) -> Counts
+        ensures { result ≡ counts_in entries.now }
+    {
+        let mut size = 0usize;
+        let mut bytes = 0usize;
+        for entry in entries {
+            bytes = bytes.saturating_add(entry[0] as usize);
+            size = size.saturating_add(entry[1] as usize);
+        }
+        Counts {
+            paragraphs: entries.len(),
+            size,
+            bytes,
+        }
+    }
+
+    pub(crate) fn write(self, header: &mut [u64; 64])
+        ensures { header.new ≡ slice_set (slice_set (slice_set header.old 4 self.paragraphs) 5 self.size) 6 self.bytes }
+    {
+        header[4] = self.paragraphs as u64;
+        header[5] = self.size as u64;
+        header[6] = self.bytes as u64;
+    }
+
+    pub(crate) fn within(self, limits: Limits) -> bool
+        ensures { result ≡ counts_within self limits }
+    {
+        let tokens = limits.tokens as usize;
+        self.paragraphs <= limits.paragraphs as usize
+            && self.size <= tokens
+            && self.bytes <= 2 * tokens
+    }
+}
+
+impl Limits {
+    // The limits that a header tells, where they are in range.
+    fn of(header: &[u64; 64]) -> Option<Limits>
+        ensures { result ≡ pick (limits_kept header.now) (Some (limits_at header.now)) None }
+    {
+        let limits = Limits {
+            paragraphs: u32::try_from(header[0]).ok()?,
+            tokens: u32::try_from(header[1]).ok()?,
+            definitions: u32::try_from(header[2]).ok()?,
+            bulk: u32::try_from(header[3]).ok()?,
+        };
+        limits.in_range().then_some(limits)
+    }
+}
+
+impl Kept {
+    // What a header tells, where its limits and looks are in range.
+    fn of(header: &[u64; 64]) -> Option<Kept>
+        ensures { result ≡ pick (limits_kept header.now && looks_kept header.now) (Some (kept_at header.now)) None }
+    {
+        let limits = Limits::of(header)?;
+        let width = u32::try_from(header[10]).ok()?;
+        let rows = u32::try_from(header[11]).ok()?;
+        let kept = Kept {
+            limits,
+            width: width as usize,
+            rows: rows as usize,
+            paragraphs: header[4] as usize,
+            size: header[5] as usize,
+            bytes: header[6] as usize,
+        };
+        page_in_range(width, rows).then_some(kept)
+    }
+
+    pub(crate) fn counts(&self) -> Counts
+        ensures { result ≡ counts_of self.now }
+    {
+        Counts {
+            paragraphs: self.paragraphs,
+            size: self.size,
+            bytes: self.bytes,
+        }
+    }
+}
+
+// What is kept of the book, and its paragraphs' entries, if memory is an open book.
+pub(crate) fn open_book<'a>(tokens: &[u8], rest: &'a [u64]) -> Option<(Kept, &'a [Entry])>
+    ensures { MatchOption result (is_open (length tokens.now) rest.now ≡ false) (λ p. OpenBook tokens.now rest.now p.0 p.1.now) }
 {
-    if rest[0] > 4096 || rest[1] > 65536 {
+    let (header, numbers) = rest.split_first_chunk::<64>()?;
+    let kept = Kept::of(header)?;
+    if tokens.len() < kept.limits.bytes_asked() || rest.len() < kept.limits.rest_asked() {
         return None;
     }
-    if rest[2] > 1024 || rest[3] > 4096 {
+    let counts = kept.counts();
+    if !counts.within(kept.limits) {
         return None;
     }
-    Some(Limits {
-        paragraphs: rest[0] as u32,
-        tokens: rest[1] as u32,
-        definitions: rest[2] as u32,
-        bulk: rest[3] as u32,
-    })
-}
-
-// Whether the entries of n paragraphs add up to so many bytes and such a size.
-fn table_adds_up(rest: &[u64], n: usize, bytes: u64, size: u64) -> bool
-    requires { 64 + 4 * n ≤ length rest.now }
-    ensures { result ≡ (table_sum 64 n rest.now == bytes && table_sum 65 n rest.now == size) }
-{
-    let mut bytes_left = bytes;
-    let mut size_left = size;
-    for i in 0..n {
-        let bytes_here = rest[64 + 4 * i];
-        let size_here = rest[65 + 4 * i];
-        if bytes_here > bytes_left {
-            return false;
-        }
-        if size_here > size_left {
-            return false;
-        }
-        bytes_left -= bytes_here;
-        size_left -= size_here;
+    let (entries, _) = numbers.as_chunks::<4>();
+    let entries = &entries[..kept.paragraphs];
+    if Counts::of(entries) != counts {
+        return None;
     }
-    if bytes_left > 0 {
-        return false;
-    }
-    size_left == 0
-}
-
-fn looks_hold(rest: &[u64]) -> bool
-    requires { 64 ≤ length rest.now }
-    ensures { result ≡ looks_kept rest.now }
-{
-    let across = 1 <= rest[10] && rest[10] <= 1000;
-    let down = 1 <= rest[11] && rest[11] <= 255;
-    across && down
-}
-
-fn counts_hold(rest: &[u64]) -> bool
-    requires in_bounds { 64 ≤ length rest.now }
-    requires rest_value { limits_kept rest.now ≡ true }
-    ensures { result ≡ counts_kept rest.now }
-{
-    let few = rest[4] <= rest[0] && rest[5] <= rest[1];
-    few && rest[6] <= 2 * rest[1]
+    Some((kept, entries))
 }
 
 // What is kept of the book, if memory is an open book.
 pub fn look(tokens: &[u8], rest: &[u64]) -> Option<Kept>
     ensures { result ≡ pick (is_open (length tokens.now) rest.now) (Some (kept_at rest.now)) None }
 {
-    if rest.len() < 64 {
-        return None;
-    }
-    let Some(limits) = limits_in(rest) else {
-        return None;
-    };
-    if tokens.len() < limits.bytes_asked() {
-        return None;
-    }
-    if rest.len() < limits.rest_asked() {
-        return None;
-    }
-    if !looks_hold(rest) {
-        return None;
-    }
-    if !counts_hold(rest) {
-        return None;
-    }
-    if !table_adds_up(rest, rest[4] as usize, rest[6], rest[5]) {
-        return None;
-    }
-    Some(Kept {
-        limits,
-        width: rest[10] as usize,
-        rows: rest[11] as usize,
-        paragraphs: rest[4] as usize,
-        size: rest[5] as usize,
-        bytes: rest[6] as usize,
-    })
+    let (kept, _) = open_book(tokens, rest)?;
+    Some(kept)
 }

@@ -1,8 +1,8 @@
 // A book is opened: how much memory its limits ask for, and what it holds at first.
-ghost use Rattle.std.specs.Prelude.{◌≡◌, ◌-◌, ◌≤◌, length, Some, None, nat_le, slice_index_or};
-ghost use Rattle.meaning.specs.Text.{pick};
-ghost use Rattle.store.specs.Opened.{all_within, limits_in_range, looks_in_range, limits_of, looks_of, tokens_asked, rest_asked, asking, packed, packed_widths, header_of, Opens, InRangeGood, OpenedSound};
+ghost use Rattle.std.specs.Prelude.{◌≡◌};
+ghost use Rattle.store.specs.Opened.{all_within, limits_in_range, page_in_range, looks_in_range, limits_of, looks_of, tokens_asked, rest_asked, asking, packed_widths, header_of, Opens, InRangeGood, OpenedSound};
 
+use std::array;
 use wire::Refusal;
 
 // The most that a book may have. In range: 4,096 paragraphs, 65,536 tokens, 1,024 definitions, and 4,096 for a paragraph's bulk.
@@ -30,7 +30,7 @@ pub struct Asked {
 }
 
 impl Limits {
-    fn in_range(&self) -> bool
+    pub(crate) fn in_range(&self) -> bool
         ensures { result ≡ limits_in_range self.now }
     {
         self.paragraphs <= 4096
@@ -53,36 +53,34 @@ impl Limits {
     }
 }
 
-fn within(widths: &[u8], low: u8, high: u8) -> bool
-    ensures { result ≡ all_within low high widths.now }
+// Of the looks, those that a header tells as they are: how wide lines are, and how many rows a page has.
+pub(crate) fn page_in_range(width: u32, rows: u32) -> bool
+    ensures { result ≡ page_in_range width rows }
 {
-    for w in widths {
-        if *w < low || *w > high {
-            return false;
-        }
-    }
-    true
+    (1..=1000).contains(&width) && (1..=255).contains(&rows)
+}
+
+fn widths_in_range(widths: &[u8; 95]) -> bool
+    ensures { result ≡ all_within 1 63 widths.now }
+{
+    widths.iter().all(|w| (1..=63).contains(w))
 }
 
 impl Looks {
     fn in_range(&self) -> bool
         ensures { result ≡ looks_in_range self.now }
     {
-        let across = 1 <= self.width && self.width <= 1000;
-        let down = 1 <= self.rows && self.rows <= 255;
-        across && down && within(&self.widths, 1, 63)
+        page_in_range(self.width, self.rows) && widths_in_range(&self.widths)
     }
 
-    // Letters that have no width of their own are 1 wide.
-    fn width_of(&self, letter: u8) -> u8
-        ensures { result ≡ slice_index_or self.now.widths (letter - 32) 1 }
+    // Eight letters to a number, the first in the lowest byte. The letter 127, which no text has, is 1 wide.
+    fn packed_widths(&self) -> [u64; 12]
+        ensures { result ≡ packed_widths (looks_of self.now).wide }
     {
-        let k = letter.saturating_sub(32) as usize;
-        if k < self.widths.len() {
-            self.widths[k]
-        } else {
-            1
-        }
+        let mut widths = [1; 96];
+        widths[..95].copy_from_slice(&self.widths);
+        let (eights, _) = widths.as_chunks::<8>();
+        array::from_fn(|k| u64::from_le_bytes(eights[k]))
     }
 }
 
@@ -91,50 +89,17 @@ impl Asked {
     pub fn of(limits: &Limits, looks: &Looks) -> Option<Asked>
         ensures { result ≡ asking limits.now looks.now }
     {
-        if !limits.in_range() {
-            return None;
-        }
-        if !looks.in_range() {
-            return None;
-        }
-        Some(Asked {
+        let asked = Asked {
             tokens: limits.bytes_asked(),
             rest: limits.rest_asked(),
-        })
+        };
+        (limits.in_range() && looks.in_range()).then_some(asked)
     }
-}
-
-// The widths of eight letters, a byte each.
-fn packed_from(looks: &Looks, c: u8) -> u64
-    requires { c ≤ 248 }
-    ensures { result ≡ packed (looks_of looks.now).wide c }
-{
-    u64::from_le_bytes([
-        looks.width_of(c),
-        looks.width_of(c + 1),
-        looks.width_of(c + 2),
-        looks.width_of(c + 3),
-        looks.width_of(c + 4),
-        looks.width_of(c + 5),
-        looks.width_of(c + 6),
-        looks.width_of(c + 7),
-    ])
-}
-
-fn packed_widths(looks: &Looks) -> [u64; 12]
-    ensures { result ≡ packed_widths (looks_of looks.now).wide }
-{
-    let mut packed = [0; 12];
-    for i in 0..12u8 {
-        packed[i as usize] = packed_from(looks, 32 + 8 * i);
-    }
-    packed
 }
 
 fn header_of(limits: &Limits, looks: &Looks) -> [u64; 64]
     ensures { result ≡ header_of limits.now looks.now }
 {
-    let widths = packed_widths(looks);
     let mut header = [0; 64];
     header[0] = limits.paragraphs as u64;
     header[1] = limits.tokens as u64;
@@ -142,14 +107,8 @@ fn header_of(limits: &Limits, looks: &Looks) -> [u64; 64]
     header[3] = limits.bulk as u64;
     header[10] = looks.width as u64;
     header[11] = looks.rows as u64;
-    header[12..24].copy_from_slice(&widths);
+    header[12..24].copy_from_slice(&looks.packed_widths());
     header
-}
-
-fn at_most(asked: usize, lent: usize) -> Option<usize>
-    ensures { result ≡ pick (nat_le asked lent) (Some asked) None }
-{
-    if asked <= lent { Some(asked) } else { None }
 }
 
 // What is out of range is refused first, then too few bytes for tokens, then too few numbers; a refusal leaves both slices as they were.
@@ -161,19 +120,16 @@ pub fn open(
 ) -> Result<(), Refusal>
     ensures { Opens limits.now looks.now tokens.old rest.old tokens.new rest.new result }
 {
-    let Some(asked) = Asked::of(limits, looks) else {
-        return Err(Refusal::BadOpening);
-    };
-    let Some(bytes) = at_most(asked.tokens, tokens.len()) else {
+    let asked = Asked::of(limits, looks).ok_or(Refusal::BadOpening)?;
+    if tokens.len() < asked.tokens {
         return Err(Refusal::ShortTokens);
-    };
-    let Some(numbers) = at_most(asked.rest, rest.len()) else {
+    }
+    if rest.len() < asked.rest {
         return Err(Refusal::ShortRest);
-    };
-    tokens[0..bytes].fill(0);
-    rest[0..numbers].fill(0);
-    let header = header_of(limits, looks);
-    rest[0..64].copy_from_slice(&header);
+    }
+    tokens[..asked.tokens].fill(0);
+    rest[..asked.rest].fill(0);
+    rest[..64].copy_from_slice(&header_of(limits, looks));
     Ok(())
 }
 

@@ -2,11 +2,12 @@
 ghost use Rattle.std.specs.Prelude.{◌≡◌, ◌+◌, ◌≤◌, max, length, replicate};
 ghost use Rattle.store.specs.Splices.{moved_up, moved_down, replaced};
 
+// `fill` asks of a type parameter that its clone can't fail, which `Copy` does not say.
 fn wipe<T: Copy>(xs: &mut [T], blank: T)
     ensures { xs.new ≡ replicate (length xs.old) blank }
 {
-    for i in 0..xs.len() {
-        xs[i] = blank;
+    for x in xs.iter_mut() {
+        *x = blank;
     }
 }
 

@@ -7,7 +7,8 @@ use Rattle.meaning.specs.Calls.{Answer, done, refused, rows, numbers}
 use Rattle.wire.specs.Bytes.{four, letters_bytes, row_bytes, rows_bytes, answer_bytes}
 use Rattle.wire.proofs.Fields.{two_at_two, four_at_four}
 use Rattle.text.specs.Laws.{AnswersShown}
-use Rattle.text.specs.Shown.{letters_of, row_first, row_then, rows_in, answer_in, shown_by}
+use Rattle.text.specs.Rows.{letters_of, row_first, row_then, rows_in}
+use Rattle.text.specs.Shown.{answer_in, shown_by}
 use Rattle.text.proofs.RowParts.{row_whole}
 
 length_letters : (ps : List Placed) → length (letters_bytes ps) ≡ 5 * length ps

@@ -4,6 +4,8 @@ mod Formed
 mod Giving
 mod Hexes
 mod Letters
+mod Literals
+mod Mapped
 mod Numbers
 mod Pieces
 mod Printed

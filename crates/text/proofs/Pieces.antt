@@ -1,7 +1,8 @@
 -- A text is cut at its first space, and spaces in front don't count.
-use Rattle.std.proofs.Common.{◌≡◌, ℕ, ◌+◌, ◌<◌, Bool, true, false, cond, not, eqb, List, [], ◌∷◌, length, get_or, take, drop, Some, None, sym, refl, ap, one-add, arith}
-use Rattle.std.specs.List.{prefix_len}
-use Rattle.std.proofs.lemmas.Bool.{eqb-false, ne_eqb}
+use Rattle.std.proofs.Common.{◌≡◌, ℕ, ◌+◌, ◌<◌, Bool, true, false, cond, not, eqb, ltb, ◌≤◌, List, [], ◌∷◌, length, get_or, take, drop, Some, None, Option, MatchOption, length-drop, sym, refl, ap, ◌∙◌, one-add, arith}
+use Rattle.std.specs.List.{prefix_len, position, between}
+use Rattle.std.proofs.lemmas.List.{nil_from_length, take_rest}
+use Rattle.std.proofs.lemmas.Bool.{eqb-false, ne_eqb, ltb-true, ltb-false}
 use Rattle.text.specs.Words.{is_space, no_space, onto, pieces, first_piece, other_pieces, non_empty, words, first_word, behind_word, words_behind, parted_at, parted}
 
 first_onto : (b : ℕ) (ps : List (List ℕ)) → first_piece (onto b ps) ≡ b ∷ first_piece ps
@@ -74,3 +75,36 @@ pub parted_some : (bs t : List ℕ) → drop (prefix_len is_space bs) bs ≡ t �
 unfolding parted
 parted_some bs [] e h = absurd (let n : ⊥ = omega arith in n)
 parted_some bs (b ∷ t) e h = ap parted_at e
+
+-- where a word starts, spaces come before it
+spaces_len : (bs : List ℕ) → prefix_len (λ b. not (no_space b)) bs ≡ prefix_len is_space bs
+spaces_len bs = λ i. prefix_len (λ b. back (is_space b) i) bs
+  where
+    back : (t : Bool) → not (not t) ≡ t
+    back true = refl
+    back false = refl
+
+position_cases : (k len : ℕ) (t : Bool) → ltb k len ≡ t → (o : Option ℕ) → o ≡ cond t (Some k) None → MatchOption o (len ≤ k) (λ n. (k < len) × (n ≡ k))
+position_cases k len true h None e = cc
+position_cases k len true h (Some n) e = (ltb-true k len h, cc)
+position_cases k len false h None e = ltb-false k len h
+position_cases k len false h (Some n) e = cc
+
+pub no_words : (bs : List ℕ) → None ≡ position no_space bs → (words bs ≡ []) × (parted bs ≡ None)
+no_words bs e =
+    let short = position_cases _ (length bs) _ refl None e in
+    let none = nil_from_length (drop (prefix_len is_space bs) bs) (omega (arith, spaces_len bs, length-drop (prefix_len is_space bs) bs)) in
+    ((behind_spaces bs _ refl).0 ∙ (ap words none ∙ words_none), parted_none bs none)
+
+pub word_first :
+    (bs : List ℕ) (n : ℕ) → Some n ≡ position no_space bs →
+    (words bs ≡ first_word (between n (length bs) bs) ∷ words_behind (between n (length bs) bs))
+    × (parted bs ≡ Some (first_word (between n (length bs) bs), behind_word (between n (length bs) bs)))
+word_first bs n e =
+    let found = position_cases _ (length bs) _ refl (Some n) e in
+    let at : n ≡ prefix_len is_space bs = found.1 ∙ spaces_len bs in
+    let t = between n (length bs) bs in
+    let left : t ≡ drop (prefix_len is_space bs) bs = take_rest bs n ∙ ap (λ k. drop k bs) at in
+    let some : 0 < length t = omega (arith, ap length left, spaces_len bs, length-drop (prefix_len is_space bs) bs) in
+    let told = behind_spaces bs t left in
+    (told.0 ∙ words_some t some told.1, parted_some bs t (sym left) some)

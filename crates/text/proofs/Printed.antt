@@ -1,15 +1,10 @@
 -- Text that a loop writes piece by piece.
-use Rattle.std.proofs.Common.{◌≡◌, ℕ, true, List, [], ◌++◌, is_ok, is_err, Some, None, Ok, Err, Option, Result, sym, refl, ap, ◌∙◌, append_assoc, append-nil}
+use Rattle.std.proofs.Common.{◌≡◌, ℕ, true, List, [], ◌++◌, is_ok, Some, None, Option, Result, sym, refl, ap, ◌∙◌, append_assoc, append-nil}
 use Rattle.std.specs.Option.{option_map}
 use Rattle.std.specs.Fmt.{IsPlainFormatter, HasWritten, WritesOnOk, DisplaysOnOk}
 use Rattle.std.specs.declared.fmt.Error.{Error}
 use Rattle.std.specs.declared.fmt.Formatter.{Formatter}
-use Rattle.std.proofs.Output.{writes_in_calls_nil, has_written_of_eq, has_written_append, displays_on_ok_of_all}
-use Rattle.std.proofs.lemmas.Bool.{both_ways}
-
-not_ok : {T E : Type 0} (P : Type 0) (r : Result T E) → is_err r ≡ true → is_ok r ≡ true → P
-not_ok P (Ok x) e f = absurd (both_ways true (sym e) refl)
-not_ok P (Err x) e f = absurd (both_ways true (sym f) refl)
+use Rattle.std.proofs.Output.{writes_in_calls_nil, has_written_of_eq, has_written_append}
 
 module _ {W : Type 0} (took : W → List ℕ → W → Type 0) where
   -- of a whole text, what is left is still to be written
@@ -38,10 +33,6 @@ module _ {W : Type 0} (took : W → List ℕ → W → Type 0) where
   left_all f g whole left so e plain =
       let p = so plain in
       has_written_of_eq took f p.done whole g (sym (p.rest ∙ (ap (λ xs. p.done ++ xs) e ∙ append-nil p.done))) p.put
-
-  -- where writing failed, nothing is said
-  pub shows_failed : (f g : Formatter W) (r : Result (Unit {0}) Error) (o : Option (List ℕ)) → is_err r ≡ true → DisplaysOnOk took f r o g
-  shows_failed f g r o e = displays_on_ok_of_all took f g r o (λ bs plain ok. not_ok _ r e ok)
 
   -- a text of what may be there
   pub shows_mapped :

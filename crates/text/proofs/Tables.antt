@@ -1,16 +1,16 @@
 -- A table of widths that is filled pair by pair.
-use Rattle.std.proofs.Common.{◌≡◌, ℕ, zero, suc, ◌+◌, ◌-◌, ◌<◌, ◌≤◌, cond, eqb, ◌⊎◌, List, [], ◌∷◌, map, length, get_or, set, replicate, Some, None, Ok, Err, Option, Result, unwrap_or, sym, refl, ap, ◌∙◌, inl, inr, arith}
+use Rattle.std.proofs.Common.{◌≡◌, ℕ, zero, suc, ◌+◌, ◌-◌, ◌<◌, ◌≤◌, cond, eqb, ◌⊎◌, List, [], ◌∷◌, map, length, get_or, set, replicate, Some, None, Ok, Err, Option, Result, unwrap_or, sym, refl, ap, ◌∙◌, subst, inl, inr, arith}
 use Rattle.std.specs.List.{range_with_len}
 use Rattle.std.proofs.lemmas.List.{get_or-set_same, get_or-set_other, length-set}
 use Rattle.std.proofs.lemmas.Bool.{cases_eq, eq-eqb, ne_eqb}
 use Rattle.notation.specs.Steps.{then}
-use Rattle.notation.proofs.Thens.{no_ok}
 use Rattle.text.specs.declared.fault.Fault.{Fault}
 use Rattle.text.specs.declared.fault.Fault.TheVariants.{NumberMissing}
 use Rattle.text.specs.declared.widths.Key.{Key}
 use Rattle.text.specs.declared.widths.Key.TheVariants.{Letter, Others}
 use Rattle.text.specs.declared.widths.Table.{Table}
-use Rattle.text.specs.Widths.{key_of, HasWidth, width_of, next_width, pairs_of, named, others, table, widths_of, blank, put, filled}
+use Rattle.text.specs.Words.{number_of, next_number}
+use Rattle.text.specs.Widths.{key_of, HasWidth, pairs_of, named, others, table, widths_of, blank, put, filled}
 
 -- the widths, where pairs come after what a table has
 pub table_with : Table → List (Key × ℕ) → List ℕ
@@ -62,49 +62,44 @@ pub so_far_all : (t : Table) (ws all : List (List ℕ)) → ws ≡ [] → SoFar 
 unfolding widths_with pairs_of widths_of
 so_far_all t ws all e h = ap (λ xs. Ok xs) (sym (table_none t)) ∙ (sym (ap (widths_with t) e) ∙ h.same)
 
--- what one turn of the loop has read: whose width, the width, and the words that are left
-pub record PairRead (ws rest : List (List ℕ)) (key : Key) (n : ℕ) : Type 0 where
-  pub name : List ℕ
-  pub width : List ℕ
-  pub split : ws ≡ name ∷ (width ∷ rest)
-  pub key_is : Ok key ≡ key_of name
-  pub width_is : Ok n ≡ width_of width
-
--- what the next width is read as
+-- what the next number is read as
 abbrev Read : Type 0
 Read = Result (ℕ × List (List ℕ)) Fault
 
-pub pair_read : (name : List ℕ) (ws rest : List (List ℕ)) (key : Key) (n : ℕ) → Ok key ≡ key_of name → ◌≡◌ {A = Read} (Ok (n, rest)) (next_width ws) → PairRead (name ∷ ws) rest key n
-pair_read name [] rest key n k e = no_ok _ (n, rest) NumberMissing e
-pair_read name (w ∷ ws) rest key n k e = go (width_of w) refl e
-  where
-    go : (r : Result ℕ Fault) → r ≡ width_of w → ◌≡◌ {A = Read} (Ok (n, rest)) (then r (λ m. Ok (m, ws))) → PairRead (name ∷ (w ∷ ws)) rest key n
-    go (Ok m) is e =
-        let both : ◌≡◌ {A = ℕ × List (List ℕ)} (n, rest) (m, ws) = cc in
-        record { name = name; width = w; split = ap (λ p. name ∷ (w ∷ p.1)) (sym both); key_is = k; width_is = ap (λ p. Ok p.0) both ∙ is }
-    go (Err x) is e = no_ok _ (n, rest) x e
+module _ (t : Table) (name : List ℕ) (all : List (List ℕ)) where
+  pub so_far_no_key : (e : Fault) (ws : List (List ℕ)) → Err e ≡ key_of name → SoFar t (name ∷ ws) all → Err e ≡ widths_of all
+  unfolding widths_with pairs_of widths_of
+  so_far_no_key e [] k so = rw (← k) at so.same
+  so_far_no_key e (w ∷ ws) k so = rw (← k) at so.same
 
-pub so_far_more : (t : Table) (ws rest all : List (List ℕ)) (key : Key) (n : ℕ) → PairRead ws rest key n → HasWidth key → SoFar t ws all → SoFar (put t key n) rest all
-unfolding widths_with pairs_of widths_of
-so_far_more t ws rest all key n read h so = record {
-  long = length_put t key n ∙ so.long;
-  same = sym (ap (widths_with t) read.split ∙ rw (← read.key_is, ← read.width_is) (go (pairs_of rest))) ∙ so.same;
-}
-  where
-    go : (r : Result (List (Key × ℕ)) Fault) → then (then r (λ ps. Ok ((key, n) ∷ ps))) (λ ps. Ok (table_with t ps)) ≡ then r (λ ps. Ok (table_with (put t key n) ps))
-    go (Ok ps) = ap (λ xs. Ok xs) (table_put t key n ps h so.long)
-    go (Err e) = refl
+  module _ (key : Key) (k : Ok key ≡ key_of name) where
+    pub so_far_no_width : (e : Fault) (ws : List (List ℕ)) → Err e ≡ next_number 256 ws → SoFar t (name ∷ ws) all → Err e ≡ widths_of all
+    unfolding widths_with pairs_of widths_of
+    so_far_no_width e [] x so = let same : e ≡ NumberMissing = cc in ap (λ f. Err f) same ∙ (rw (← k) at so.same)
+    so_far_no_width e (w ∷ ws) x so = go (number_of 256 w) x ∙ (rw (← k) at so.same)
+      where
+        go : (r : Result ℕ Fault) → ◌≡◌ {A = Read} (Err e) (then r (λ n. Ok (n, ws))) → Err e ≡ then (then r (λ n. then (pairs_of ws) (λ ps. Ok ((key, n) ∷ ps)))) (λ ps. Ok (table_with t ps))
+        go (Ok n) y = cc
+        go (Err d) y = cc
 
-pub so_far_no_key : (t : Table) (name : List ℕ) (ws all : List (List ℕ)) (e : Fault) → Err e ≡ key_of name → SoFar t (name ∷ ws) all → Err e ≡ widths_of all
-unfolding widths_with pairs_of widths_of
-so_far_no_key t name [] all e k so = rw (← k) at so.same
-so_far_no_key t name (w ∷ ws) all e k so = rw (← k) at so.same
+    module _ (h : HasWidth key) (n : ℕ) where
+      so_far_pair : (w : List ℕ) (ws : List (List ℕ)) → Ok n ≡ number_of 256 w → SoFar t (name ∷ (w ∷ ws)) all → SoFar (put t key n) ws all
+      unfolding widths_with pairs_of widths_of
+      so_far_pair w ws x so = record {
+        long = length_put t key n ∙ so.long;
+        same = sym (rw (← k, ← x) (go (pairs_of ws))) ∙ so.same;
+      }
+        where
+          go : (r : Result (List (Key × ℕ)) Fault) → then (then r (λ ps. Ok ((key, n) ∷ ps))) (λ ps. Ok (table_with t ps)) ≡ then r (λ ps. Ok (table_with (put t key n) ps))
+          go (Ok ps) = ap (λ xs. Ok xs) (table_put t key n ps h so.long)
+          go (Err e) = refl
 
-pub so_far_no_width : (t : Table) (name : List ℕ) (ws all : List (List ℕ)) (key : Key) (e : Fault) → Ok key ≡ key_of name → Err e ≡ next_width ws → SoFar t (name ∷ ws) all → Err e ≡ widths_of all
-unfolding widths_with pairs_of widths_of
-so_far_no_width t name [] all key e k x so = let same : e ≡ NumberMissing = cc in ap (λ f. Err f) same ∙ rw (← k) at so.same
-so_far_no_width t name (w ∷ ws) all key e k x so = go (width_of w) x ∙ rw (← k) at so.same
-  where
-    go : (r : Result ℕ Fault) → ◌≡◌ {A = Read} (Err e) (then r (λ m. Ok (m, ws))) → Err e ≡ then (then r (λ m. then (pairs_of ws) (λ ps. Ok ((key, m) ∷ ps)))) (λ ps. Ok (table_with t ps))
-    go (Ok m) y = no_ok _ (m, ws) e (sym y)
-    go (Err d) y = let same : e ≡ d = cc in ap (λ f. Err f) same
+      pub so_far_more : (ws rest : List (List ℕ)) → ◌≡◌ {A = Read} (Ok (n, rest)) (next_number 256 ws) → SoFar t (name ∷ ws) all → SoFar (put t key n) rest all
+      so_far_more [] rest x so = cc
+      so_far_more (w ∷ ws) rest x so = go (number_of 256 w) refl x
+        where
+          go : (r : Result ℕ Fault) → r ≡ number_of 256 w → ◌≡◌ {A = Read} (Ok (n, rest)) (then r (λ m. Ok (m, ws))) → SoFar (put t key n) rest all
+          go (Ok m) is e =
+              let both : ◌≡◌ {A = ℕ × List (List ℕ)} (m, ws) (n, rest) = cc in
+              subst (λ left. SoFar (put t key n) left all) (ap (λ p. p.1) both) (so_far_pair w ws (ap (λ p. Ok p.0) (sym both) ∙ is) so)
+          go (Err d) is e = cc

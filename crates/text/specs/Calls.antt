@@ -2,7 +2,6 @@
 --   question_of                  what is asked, by the call's first byte
 --   verb_of                      which call a word begins
 --   tokens_in, with_tokens       what tokens are as bytes, and a number and tokens behind a call's kind
---   after_word                   the words behind one that is due
 --   put_line, cut_line, show_line, where_line, how_line, hex_line   the bytes of each call
 --   call_of                      the bytes of any
 --   Made, Gives                  what the code gives, where memory may fail
@@ -19,9 +18,9 @@ use Rattle.text.specs.declared.call.Question.TheVariants.{Change, Rows, Page, Pa
 use Rattle.text.specs.declared.call.Verb.{Verb}
 use Rattle.text.specs.declared.call.Verb.TheVariants as verb
 use Rattle.text.specs.declared.fault.Fault.{Fault}
-use Rattle.text.specs.declared.fault.Fault.TheVariants.{Unknown, NoByte, TooMuch, NoMemory}
+use Rattle.text.specs.declared.fault.Fault.TheVariants.{NoByte, NoMemory}
 use Rattle.text.specs.Messages.{fault_in}
-use Rattle.text.specs.Words.{words, parted, next_number, next_field, last_field, number_and_text}
+use Rattle.text.specs.Words.{words, parted, after_word, ended, next_number, last_number, number_and_text}
 
 abbrev pub question_of : List ℕ → Question
 question_of [] = Change
@@ -51,25 +50,17 @@ abbrev pub put_line : List ℕ → Result (List ℕ) Fault
 put_line bs = put_by bs (parted bs)
 
 abbrev pub cut_line : List (List ℕ) → Result (List ℕ) Fault
-cut_line ws = then (last_field ws) (λ k. Ok (call_bytes (cut k)))
+cut_line ws = then (last_number 65536 ws) (λ k. Ok (call_bytes (cut k)))
 
 abbrev pub show_line : List (List ℕ) → Result (List ℕ) Fault
 show_line ws =
-    then (next_number ws) (λ page. then (next_field page.1) (λ row. then (last_field row.1) (λ count. Ok (call_bytes (show page.0 row.0 count)))))
-
-abbrev pub after_word : List ℕ → List (List ℕ) → Result (List (List ℕ)) Fault
-after_word due [] = Err Unknown
-after_word due (w ∷ ws) = cond (bytes_eq w due) (Ok ws) (Err Unknown)
+    then (next_number 4294967296 ws) (λ page. then (next_number 65536 page.1) (λ row. then (last_number 65536 row.1) (λ count. Ok (call_bytes (show page.0 row.0 count)))))
 
 abbrev pub where_line : List (List ℕ) → Result (List ℕ) Fault
-where_line ws = then (after_word (codes "is") ws) (λ rest. then (last_field rest) (λ q. Ok (call_bytes (where_is q))))
-
-abbrev pub nothing_more : List (List ℕ) → Result (List ℕ) Fault
-nothing_more [] = Ok (call_bytes how_many)
-nothing_more (w ∷ ws) = Err TooMuch
+where_line ws = then (after_word (codes "is") ws) (λ rest. then (last_number 65536 rest) (λ q. Ok (call_bytes (where_is q))))
 
 abbrev pub how_line : List (List ℕ) → Result (List ℕ) Fault
-how_line ws = then (after_word (codes "many") ws) nothing_more
+how_line ws = then (after_word (codes "many") ws) (λ rest. then (ended rest) (λ _. Ok (call_bytes how_many)))
 
 -- 0 to 9, A to F, a to f
 abbrev pub hex_digit : ℕ → Result ℕ Fault

@@ -3,6 +3,7 @@ pub mod Entries
 pub mod Laws
 pub mod Messages
 pub mod Reading
+pub mod Rows
 pub mod Shown
 pub mod Widths
 pub mod Words

@@ -1,4 +1,5 @@
 -- What is written.
+--   refused_text   of a call refused, by the number of the reason and a place
 --   outcome_text   of an outcome
 --   fault_text     of what is wrong with a line
 --   fault_in       what is wrong with a line where this is wrong with its tokens
@@ -11,9 +12,12 @@ use Rattle.notation.specs.declared.fault.Fault.TheVariants as noted
 use Rattle.text.specs.declared.fault.Fault.{Fault}
 use Rattle.text.specs.declared.fault.Fault.TheVariants.{Unknown, OutOfPlace, NumberMissing, NoNumber, TooLarge, NoLetter, NoByte, TooMuch, Notation, NoMemory}
 
+abbrev pub refused_text : ℕ → ℕ → List ℕ
+refused_text n p = codes "refused " ++ (decimal n ++ (codes " at " ++ decimal p))
+
 abbrev pub outcome_text : Result (Unit {0}) Refusal → List ℕ
 outcome_text (Ok u) = codes "done"
-outcome_text (Err e) = codes "refused " ++ (decimal (refusal_number e) ++ (codes " at " ++ decimal (refusal_place e)))
+outcome_text (Err e) = refused_text (refusal_number e) (refusal_place e)
 
 abbrev pub fault_text : Fault → List ℕ
 fault_text Unknown = codes "no such line"

@@ -4,13 +4,13 @@
 --   named, others      the width that a letter's last pair gives it, and the one of letters that are not named
 --   table, widths_of   the widths of the letters 32 to 126, from pairs and from words
 --   blank, put, filled what the code keeps of the pairs so far, and what it makes of that
-use Rattle.std.specs.Prelude.{ℕ, ◌+◌, ◌-◌, ◌≤◌, cond, ◌&&◌, List, [], ◌∷◌, map, replicate, Some, None, Ok, Err, codes, Option, Result, ◌==◌, nat_le, nat_lt, slice_index_or, slice_set}
+use Rattle.std.specs.Prelude.{ℕ, ◌+◌, ◌-◌, ◌≤◌, cond, ◌&&◌, List, [], ◌∷◌, map, replicate, Some, None, Ok, Err, codes, Option, Result, ◌==◌, nat_le, slice_index_or, slice_set}
 use Rattle.std.specs.List.{range_with_len}
 use Rattle.std.specs.Option.{unwrap_or}
 use Rattle.std.specs.Str.{bytes_eq}
 use Rattle.notation.specs.Steps.{then}
 use Rattle.text.specs.declared.fault.Fault.{Fault}
-use Rattle.text.specs.declared.fault.Fault.TheVariants.{NumberMissing, TooLarge, NoLetter}
+use Rattle.text.specs.declared.fault.Fault.TheVariants.{NumberMissing, NoLetter}
 use Rattle.text.specs.declared.widths.Key.{Key}
 use Rattle.text.specs.declared.widths.Key.TheVariants.{Letter, Others}
 use Rattle.text.specs.declared.widths.Table.{Table}
@@ -29,17 +29,10 @@ abbrev pub HasWidth : Key → Type 0
 HasWidth (Letter c) = (32 ≤ c) × (c ≤ 126)
 HasWidth Others = Unit {0}
 
-abbrev pub width_of : List ℕ → Result ℕ Fault
-width_of w = then (number_of w) (λ n. cond (nat_lt n 256) (Ok n) (Err TooLarge))
-
-abbrev pub next_width : List (List ℕ) → Result (ℕ × List (List ℕ)) Fault
-next_width [] = Err NumberMissing
-next_width (w ∷ ws) = then (width_of w) (λ n. Ok (n, ws))
-
 unfoldable pub pairs_of : List (List ℕ) → Result (List (Key × ℕ)) Fault
 pairs_of [] = Ok []
 pairs_of (k ∷ []) = then (key_of k) (λ key. Err NumberMissing)
-pairs_of (k ∷ (w ∷ ws)) = then (key_of k) (λ key. then (width_of w) (λ n. then (pairs_of ws) (λ ps. Ok ((key, n) ∷ ps))))
+pairs_of (k ∷ (w ∷ ws)) = then (key_of k) (λ key. then (number_of 256 w) (λ n. then (pairs_of ws) (λ ps. Ok ((key, n) ∷ ps))))
 
 unfoldable pub named : ℕ → List (Key × ℕ) → Option ℕ → Option ℕ
 named c [] d = d

@@ -4,18 +4,19 @@
 --   first_word, words_behind   the first piece, which has no bytes where a space comes first, and the words behind it
 --   behind_word                what stands behind the first piece, from its space on
 --   parted                     the first of the words, and what stands behind it
---   number_of                  what a word says that is to be a number
---   next_number, last_number   the number that the first of some words says, with the other words, or with no others allowed
---   next_field, last_field     the same for a number that two bytes can carry
---   number_and_text            such a number, and what stands behind one space after it
+--   within                     a number below a bound, or that it is too large
+--   number_of                  what a word says that is to be a number below a bound
+--   after_word                 the words behind one that is due
+--   ended                      nothing, where no words are left
+--   next_number, last_number   such a number that the first of some words says, with the other words, or with no others allowed
+--   number_and_text            a number that two bytes can carry, and what stands behind one space after it
 use Rattle.std.specs.Prelude.{ℕ, Bool, true, false, cond, not, List, [], ◌∷◌, drop, Some, None, Ok, Err, filter, Option, Result, ◌==◌, nat_lt}
-use Rattle.std.specs.Borrow.{Bor}
 use Rattle.std.specs.List.{prefix_len}
-use Rattle.std.specs.Str.{all_ascii_digits}
+use Rattle.std.specs.Str.{all_ascii_digits, bytes_eq}
 use Rattle.notation.specs.Numbers.{value_of}
 use Rattle.notation.specs.Steps.{then}
 use Rattle.text.specs.declared.fault.Fault.{Fault}
-use Rattle.text.specs.declared.fault.Fault.TheVariants.{NumberMissing, NoNumber, TooLarge, TooMuch}
+use Rattle.text.specs.declared.fault.Fault.TheVariants.{Unknown, NumberMissing, NoNumber, TooLarge, TooMuch}
 
 abbrev pub is_space : ℕ → Bool
 is_space b = b == 32
@@ -67,29 +68,28 @@ parted_at (b ∷ bs) = Some (first_word (b ∷ bs), behind_word (b ∷ bs))
 unfoldable pub parted : List ℕ → Option (List ℕ × List ℕ)
 parted bs = parted_at (drop (prefix_len is_space bs) bs)
 
+abbrev pub within : ℕ → ℕ → Result ℕ Fault
+within bound n = cond (nat_lt n bound) (Ok n) (Err TooLarge)
+
 -- there is at least one digit, since a word has bytes
-unfoldable pub number_of : List ℕ → Result ℕ Fault
-number_of w = cond (all_ascii_digits w) (cond (nat_lt (value_of w) 4294967296) (Ok (value_of w)) (Err TooLarge)) (Err NoNumber)
+unfoldable pub number_of : ℕ → List ℕ → Result ℕ Fault
+number_of bound w = cond (all_ascii_digits w) (within bound (value_of w)) (Err NoNumber)
 
-abbrev pub next_number : List (List ℕ) → Result (ℕ × List (List ℕ)) Fault
-next_number [] = Err NumberMissing
-next_number (w ∷ ws) = then (number_of w) (λ n. Ok (n, ws))
+abbrev pub next_number : ℕ → List (List ℕ) → Result (ℕ × List (List ℕ)) Fault
+next_number bound [] = Err NumberMissing
+next_number bound (w ∷ ws) = then (number_of bound w) (λ n. Ok (n, ws))
 
-abbrev pub nothing_after : {A : Type 0} → A × List (List ℕ) → Result A Fault
-nothing_after (x, []) = Ok x
-nothing_after (x, w ∷ ws) = Err TooMuch
+abbrev pub after_word : List ℕ → List (List ℕ) → Result (List (List ℕ)) Fault
+after_word due [] = Err Unknown
+after_word due (w ∷ ws) = cond (bytes_eq w due) (Ok ws) (Err Unknown)
 
-abbrev pub last_number : List (List ℕ) → Result ℕ Fault
-last_number ws = then (next_number ws) nothing_after
+abbrev pub ended : List (List ℕ) → Result (Unit {0}) Fault
+ended [] = Ok tt
+ended (w ∷ ws) = Err TooMuch
 
-abbrev pub field : ℕ → Result ℕ Fault
-field n = cond (nat_lt n 65536) (Ok n) (Err TooLarge)
-
-abbrev pub next_field : List (List ℕ) → Result (ℕ × List (List ℕ)) Fault
-next_field ws = then (next_number ws) (λ p. then (field p.0) (λ k. Ok (k, p.1)))
-
-abbrev pub last_field : List (List ℕ) → Result ℕ Fault
-last_field ws = then (last_number ws) field
+-- what four bytes can carry is only too large if nothing stands behind it
+abbrev pub last_number : ℕ → List (List ℕ) → Result ℕ Fault
+last_number bound ws = then (next_number 4294967296 ws) (λ p. then (ended p.1) (λ _. within bound p.0))
 
 -- a space, or nothing, comes first
 abbrev pub behind_space : List ℕ → List ℕ
@@ -98,12 +98,12 @@ behind_space (b ∷ bs) = bs
 
 abbrev pub number_first : Option (List ℕ × List ℕ) → Result (ℕ × List ℕ) Fault
 number_first None = Err NumberMissing
-number_first (Some p) = then (number_of p.0) (λ n. then (field n) (λ k. Ok (k, behind_space p.1)))
+number_first (Some p) = then (number_of 65536 p.0) (λ k. Ok (k, behind_space p.1))
 
 abbrev pub number_and_text : List ℕ → Result (ℕ × List ℕ) Fault
 number_and_text bs = number_first (parted bs)
 
--- what was read, and the words of the text that is left
-abbrev pub left : {A : Type 0} → Result (A × Bor (List ℕ)) Fault → Result (A × List (List ℕ)) Fault
-left (Ok p) = Ok (p.0, words p.1.now)
-left (Err e) = Err e
+-- what was read, as a number, and the words of the text that is left
+abbrev pub left : {A : Type 0} → (A → ℕ) → Result A Fault → List ℕ → Result (ℕ × List (List ℕ)) Fault
+left value (Ok n) rest = Ok (value n, words rest)
+left value (Err e) rest = Err e

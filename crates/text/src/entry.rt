@@ -5,7 +5,7 @@ ghost use Rattle.text.specs.Words.{words};
 
 use crate::fault::Fault;
 use crate::widths::read_widths;
-use crate::word::{first_word, last_number, next_number};
+use crate::word::{Words, first_word};
 use store::Limits;
 
 #[derive(Clone, Copy)]
@@ -27,51 +27,46 @@ enum Keyword {
     Rows,
 }
 
-fn keyword_of(word: &[u8]) -> Option<Keyword>
-    ensures { result ≡ keyword_of word.now }
-{
-    if word == b"limits".as_slice() {
-        Some(Keyword::Limits)
-    } else if word == b"widths".as_slice() {
-        Some(Keyword::Widths)
-    } else if word == b"width".as_slice() {
-        Some(Keyword::Width)
-    } else if word == b"rows".as_slice() {
-        Some(Keyword::Rows)
-    } else {
-        None
+impl TryFrom<&[u8]> for Keyword {
+    type Error = Fault;
+
+    ghost try_from_gives = { λ word keyword. keyword ≡ keyword_of word.now };
+
+    #[tactic(auto, unfolding(crate::specs::Entries::keyword_of))]
+    fn try_from(word: &[u8]) -> Result<Self, Fault> {
+        match word {
+            b"limits" => Ok(Keyword::Limits),
+            b"widths" => Ok(Keyword::Widths),
+            b"width" => Ok(Keyword::Width),
+            b"rows" => Ok(Keyword::Rows),
+            _ => Err(Fault::Unknown),
+        }
     }
 }
 
 fn read_limits(text: &[u8]) -> Result<Limits, Fault>
     ensures { result ≡ limits_of (words text.now) }
 {
-    let (paragraphs, text) = next_number(text)?;
-    let (tokens, text) = next_number(text)?;
-    let (definitions, text) = next_number(text)?;
-    let bulk = last_number(text)?;
+    let mut words = Words(text);
     Ok(Limits {
-        paragraphs,
-        tokens,
-        definitions,
-        bulk,
+        paragraphs: words.number()?,
+        tokens: words.number()?,
+        definitions: words.number()?,
+        bulk: words.last_number()?,
     })
 }
 
 pub fn read_entry(line: &[u8]) -> Result<Entry, Fault>
     ensures { result ≡ entry_of line.now }
 {
-    if line.is_empty() || line[0] == b'#' {
+    if let [] | [b'#', ..] = line {
         return Ok(Entry::Nothing);
     }
     let (word, rest) = first_word(line);
-    let Some(keyword) = keyword_of(word) else {
-        return Err(Fault::Unknown);
-    };
-    match keyword {
+    match Keyword::try_from(word)? {
         Keyword::Limits => Ok(Entry::Limits(read_limits(rest)?)),
         Keyword::Widths => Ok(Entry::Widths(read_widths(rest)?)),
-        Keyword::Width => Ok(Entry::Width(last_number(rest)?)),
-        Keyword::Rows => Ok(Entry::Rows(last_number(rest)?)),
+        Keyword::Width => Ok(Entry::Width(Words(rest).last_number()?)),
+        Keyword::Rows => Ok(Entry::Rows(Words(rest).last_number()?)),
     }
 }

@@ -4,9 +4,10 @@ ghost use Rattle.text.specs.declared.fault.Fault.TheVariants.{NoMemory};
 ghost use Rattle.text.specs.Messages.{fault_text, fault_in};
 
 use std::alloc::{AllocError, AllocFailed};
+use std::error::Error;
 use std::fmt;
 
-#[derive(Clone, Copy)]
+#[derive(Clone, Copy, Debug, PartialEq, Eq)]
 pub enum Fault {
     Unknown,
     OutOfPlace,
@@ -46,6 +47,8 @@ impl fmt::Display for Fault {
         f.write_str(self.message())
     }
 }
+
+impl Error for Fault {}
 
 impl From<notation::Fault> for Fault {
     ghost from_gives = { λ x r. r ≡ fault_in x };

@@ -4,36 +4,29 @@ ghost use Rattle.text.specs.Calls.{hex_digit, hex_byte, hex_line, Gives};
 ghost use Rattle.text.specs.Words.{words};
 
 use crate::fault::Fault;
-use crate::word::next_word;
+use crate::word::Words;
 use std::alloc::Global;
 
 fn hex_digit(b: u8) -> Result<u8, Fault>
     ensures { result ≡ hex_digit b }
 {
-    match b {
-        b'0'..=b'9' => Ok(b - b'0'),
-        b'A'..=b'F' => Ok(b - b'A' + 10),
-        b'a'..=b'f' => Ok(b - b'a' + 10),
-        _ => Err(Fault::NoByte),
-    }
+    let digit = char::from(b).to_digit(16).ok_or(Fault::NoByte)?;
+    Ok(digit as u8)
 }
 
 fn hex_byte(word: &[u8]) -> Result<u8, Fault>
     ensures { result ≡ hex_byte word.now }
 {
-    let [high, low] = word else {
-        return Err(Fault::NoByte);
-    };
-    Ok(16 * hex_digit(*high)? + hex_digit(*low)?)
+    let [high, low] = *word.as_array::<2>().ok_or(Fault::NoByte)?;
+    Ok(16 * hex_digit(high)? + hex_digit(low)?)
 }
 
-pub fn read_bytes(heap: Global, mut text: &[u8]) -> Result<Vec<u8>, Fault>
+pub fn read_bytes(heap: Global, text: &[u8]) -> Result<Vec<u8>, Fault>
     ensures { Gives (hex_line (words text.now)) result }
 {
     let mut bytes = Vec::new(heap);
-    while let Some((word, rest)) = next_word(text) {
+    for word in Words(text) {
         bytes.push(hex_byte(word)?)?;
-        text = rest;
     }
     Ok(bytes)
 }

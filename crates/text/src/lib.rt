@@ -8,6 +8,7 @@ mod hex;
 mod laws;
 mod outcome;
 mod reader;
+mod rows;
 mod shown;
 mod widths;
 mod word;

@@ -4,7 +4,7 @@ ghost use Rattle.text.specs.declared.reader.State.TheVariants.{Start, Refused};
 ghost use Rattle.text.specs.Calls.{call_of};
 ghost use Rattle.text.specs.Reading.{begins_book, passed_over, entered, called, both_said, Says, step_of, state_after};
 
-use crate::call::{Question, Verb, read_call, verb_of};
+use crate::call::{Question, Verb, read_call};
 use crate::entry::{Entry, read_entry};
 use crate::fault::Fault;
 use crate::word::first_word;
@@ -32,11 +32,11 @@ enum State {
     Refused,
 }
 
+#[tactic(auto, unfolding(crate::specs::Reading::begins_book))]
 fn begins_book(line: &[u8]) -> bool
     ensures { result ≡ begins_book line.now }
 {
-    let (word, _) = first_word(line);
-    word == b"limits".as_slice()
+    matches!(first_word(line), (b"limits", _))
 }
 
 impl State {
@@ -109,7 +109,7 @@ impl Reader {
             return Ok(Step::Nothing);
         }
         let (word, rest) = first_word(line);
-        if let Some(verb) = verb_of(word) {
+        if let Some(verb) = Verb::named(word) {
             return self.state.call(heap, verb, rest);
         }
         let entry = read_entry(line)?;

@@ -1,10 +1,10 @@
 // The widths of letters, as a line gives them in pairs.
 ghost use Rattle.std.specs.Prelude.{◌≡◌, IfOk};
-ghost use Rattle.text.specs.Widths.{letter_of, key_of, HasWidth, next_width, blank, put, filled, widths_of};
-ghost use Rattle.text.specs.Words.{words, left};
+ghost use Rattle.text.specs.Widths.{key_of, HasWidth, blank, put, filled, widths_of};
+ghost use Rattle.text.specs.Words.{words};
 
 use crate::fault::Fault;
-use crate::word::{next_number, next_word};
+use crate::word::Words;
 
 // Whose width it is.
 #[derive(Clone, Copy)]
@@ -13,38 +13,19 @@ enum Key {
     Others,
 }
 
-// Any letter but the space stands for itself.
-fn letter_of(word: &[u8]) -> Result<Key, Fault>
-    ensures value { result ≡ letter_of word.now }
-    ensures ok { IfOk result HasWidth }
-{
-    match word {
-        [letter @ 33..=126] => Ok(Key::Letter(*letter)),
-        _ => Err(Fault::NoLetter),
-    }
-}
+impl TryFrom<&[u8]> for Key {
+    type Error = Fault;
 
-fn key_of(word: &[u8]) -> Result<Key, Fault>
-    ensures value { result ≡ key_of word.now }
-    ensures ok { IfOk result HasWidth }
-{
-    if word == b"space".as_slice() {
-        return Ok(Key::Letter(b' '));
-    }
-    if word == b"others".as_slice() {
-        return Ok(Key::Others);
-    }
-    letter_of(word)
-}
+    ghost try_from_gives = { λ word key. (key ≡ key_of word.now) × IfOk key HasWidth };
 
-// The next word as a number up to 255, and what stands behind it.
-fn next_width(text: &[u8]) -> Result<(u8, &[u8]), Fault>
-    ensures { left result ≡ next_width (words text.now) }
-{
-    let (n, rest) = next_number(text)?;
-    match u8::try_from(n) {
-        Ok(width) => Ok((width, rest)),
-        Err(_) => Err(Fault::TooLarge),
+    // Any letter but the space stands for itself.
+    fn try_from(word: &[u8]) -> Result<Self, Fault> {
+        match word {
+            b"space" => Ok(Key::Letter(b' ')),
+            b"others" => Ok(Key::Others),
+            [letter @ 33..=126] => Ok(Key::Letter(*letter)),
+            _ => Err(Fault::NoLetter),
+        }
     }
 }
 
@@ -71,7 +52,7 @@ impl Table {
         ensures { self.new ≡ put self.old key width }
     {
         match key {
-            Key::Letter(letter) => self.letters[letter as usize - 32] = Some(width),
+            Key::Letter(letter) => self.letters[usize::from(letter) - 32] = Some(width),
             Key::Others => self.others = width,
         }
     }
@@ -79,23 +60,18 @@ impl Table {
     fn widths(&self) -> [u8; 95]
         ensures { result ≡ filled self.now }
     {
-        let mut widths = [0; 95];
-        for k in 0..95 {
-            widths[k] = self.letters[k].unwrap_or(self.others);
-        }
-        widths
+        self.letters.map(|width| width.unwrap_or(self.others))
     }
 }
 
-pub fn read_widths(mut text: &[u8]) -> Result<[u8; 95], Fault>
+pub fn read_widths(text: &[u8]) -> Result<[u8; 95], Fault>
     ensures { result ≡ widths_of (words text.now) }
 {
     let mut table = Table::new();
-    while let Some((word, rest)) = next_word(text) {
-        let key = key_of(word)?;
-        let (width, rest) = next_width(rest)?;
-        table.put(key, width);
-        text = rest;
+    let mut words = Words(text);
+    while let Some(name) = words.next() {
+        let key = Key::try_from(name)?;
+        table.put(key, words.number()?);
     }
     Ok(table.widths())
 }

@@ -1,35 +1,68 @@
 // Words and numbers at the front of a text, each with what stands behind it.
-ghost use Rattle.std.specs.Prelude.{◌≡◌, [], ◌∷◌, MatchOption};
+ghost use Rattle.std.specs.Prelude.{◌≡◌, ℕ, ◌≤◌, ◌<◌, [], ◌∷◌, length, cond, Some, None, nat_lt, Result, MatchOption, position};
+ghost use Rattle.std.proofs.Common.{rules};
 ghost use Rattle.std.specs.Option.{option_map};
+ghost use Rattle.std.specs.Iterator.{YieldsFirstRef, item_count};
 ghost use Rattle.std.specs.List.{prefix_len};
-ghost use Rattle.text.specs.Words.{is_space, no_space, words, first_word, behind_word, words_behind, parted, number_of, next_number, last_number, field, next_field, last_field, number_and_text, left};
+ghost use Rattle.std.specs.Result.{result_map_both, result_ok};
+ghost use Rattle.text.specs.Words.{no_space, words, first_word, behind_word, words_behind, parted, within, number_of, next_number, after_word, ended, last_number, number_and_text, left};
 ghost use Rattle.notation.specs.Steps.{behind};
 
 use crate::fault::Fault;
+use notation::digits_value;
+use std::num::TryFromIntError;
 
-// How many spaces come first.
-fn spaces(text: &[u8]) -> usize
-    ensures { result ≡ prefix_len is_space text.now }
-{
-    let mut n = 0;
-    while n < text.len() && text[n] == b' ' {
-        n += 1;
-    }
-    n
+// A type that a number is read as.
+pub trait Number: TryFrom<u64, Error = TryFromIntError> {
+    // The first number that is too large.
+    ghost bound: { ℕ };
+
+    ghost value: { Self → ℕ };
+
+    ghost fits: { (bound ≤ 4294967296) × ((n : ℕ) (r : _) → Self.try_from_gives n r → option_map value (result_ok r) ≡ cond (nat_lt n bound) (Some n) None) };
+}
+
+impl Number for u8 {
+    ghost bound = { 256 };
+
+    ghost value = { λ n. n };
+
+    ghost fits = { Prim.search rules };
+}
+
+impl Number for u16 {
+    ghost bound = { 65536 };
+
+    ghost value = { λ n. n };
+
+    ghost fits = { Prim.search rules };
+}
+
+impl Number for u32 {
+    ghost bound = { 4294967296 };
+
+    ghost value = { λ n. n };
+
+    ghost fits = { Prim.search rules };
 }
 
 // How many bytes come before the first space.
 fn word_len(text: &[u8]) -> usize
-    ensures { result ≡ prefix_len no_space text.now }
+    ensures value { result ≡ prefix_len no_space text.now }
+    ensures within { result ≤ length text.now }
 {
-    let mut n = 0;
-    while n < text.len() && text[n] != b' ' {
-        n += 1;
-    }
-    n
+    text.iter().take_while(|b| **b != b' ').count()
+}
+
+// Where the first word begins; None where only spaces are left.
+fn word_start(text: &[u8]) -> Option<usize>
+    ensures { result ≡ position no_space text.now }
+{
+    text.iter().position(|b| *b != b' ')
 }
 
 // What comes before the first space, which may be nothing, and the rest.
+#[tactic(auto, using(crate::proofs::Pieces::take_word, crate::proofs::Pieces::words_behind_word), unfolding(crate::specs::Words::behind_word))]
 pub fn first_word(text: &[u8]) -> (&[u8], &[u8])
     ensures front { result.0.now ≡ first_word text.now }
     ensures back { result.1.now ≡ behind_word text.now }
@@ -43,83 +76,85 @@ pub fn next_word(text: &[u8]) -> Option<(&[u8], &[u8])>
     ensures words { MatchOption result (words text.now ≡ []) (λ p. words text.now ≡ p.0.now ∷ words p.1.now) }
     ensures exact { option_map (λ p. (p.0.now, p.1.now)) result ≡ parted text.now }
 {
-    let (_, text) = text.split_at(spaces(text));
-    if text.is_empty() {
-        return None;
-    }
-    Some(first_word(text))
+    let start = word_start(text)?;
+    Some(first_word(&text[start..]))
 }
 
-fn number(word: &[u8]) -> Result<u32, Fault>
-    ensures { result ≡ number_of word.now }
+fn narrow<T: Number>(n: u64) -> Result<T, Fault>
+    ensures { result_map_both T.value (λ e. e) result ≡ within T.bound n }
 {
-    let mut n: u64 = 0;
-    for b in word {
-        if !b.is_ascii_digit() {
-            return Err(Fault::NoNumber);
+    T::try_from(n).map_err(|_| Fault::TooLarge)
+}
+
+#[tactic(auto, unfolding(crate::specs::Words::number_of))]
+fn read_number<T: Number>(word: &[u8]) -> Result<T, Fault>
+    ensures { result_map_both T.value (λ e. e) result ≡ number_of T.bound word.now }
+{
+    narrow(digits_value(word).ok_or(Fault::NoNumber)?)
+}
+
+// The words of a text that are left to be read.
+#[derive(Drop)]
+pub struct Words<'a>(pub &'a [u8]);
+
+impl<'a> Iterator for Words<'a> {
+    type Item = &'a [u8];
+
+    ghost next_gives = { YieldsFirstRef (λ s. words s.0.now) };
+
+    ghost remaining = { item_count (λ s. words s.0.now) };
+
+    fn next(&mut self) -> Option<&'a [u8]> {
+        let (word, rest) = next_word(self.0)?;
+        self.0 = rest;
+        Some(word)
+    }
+}
+
+impl Words<'_> {
+    // The next word is to be this one.
+    pub fn due(&mut self, word: &[u8]) -> Result<(), Fault>
+        ensures { result_map_both (λ _. words self.new.0.now) (λ e. e) result ≡ after_word word.now (words self.old.0.now) }
+    {
+        match self.next() {
+            Some(next) if next == word => Ok(()),
+            _ => Err(Fault::Unknown),
         }
-        // What is too large stays so, whatever digits follow.
-        n = (10 * n + u64::from(*b - b'0')).min(1 << 32);
     }
-    match u32::try_from(n) {
-        Ok(n) => Ok(n),
-        Err(_) => Err(Fault::TooLarge),
+
+    // No word may be left. A match says more plainly than a chain that it is None which is right.
+    pub fn end(mut self) -> Result<(), Fault>
+        ensures { result ≡ ended (words self.entry.0.now) }
+    {
+        match self.next() {
+            None => Ok(()),
+            Some(_) => Err(Fault::TooMuch),
+        }
     }
-}
 
-pub fn next_number(text: &[u8]) -> Result<(u32, &[u8]), Fault>
-    ensures { left result ≡ next_number (words text.now) }
-{
-    let Some((word, rest)) = next_word(text) else {
-        return Err(Fault::NumberMissing);
-    };
-    Ok((number(word)?, rest))
-}
-
-// Nothing but spaces may stand behind it.
-pub fn last_number(text: &[u8]) -> Result<u32, Fault>
-    ensures { result ≡ last_number (words text.now) }
-{
-    let (n, rest) = next_number(text)?;
-    match next_word(rest) {
-        None => Ok(n),
-        Some(_) => Err(Fault::TooMuch),
+    pub fn number<T: Number>(&mut self) -> Result<T, Fault>
+        ensures { left T.value result self.new.0.now ≡ next_number T.bound (words self.old.0.now) }
+    {
+        read_number(self.next().ok_or(Fault::NumberMissing)?)
     }
-}
 
-// A number that two bytes can carry.
-fn field(n: u32) -> Result<u16, Fault>
-    ensures { result ≡ field n }
-{
-    match u16::try_from(n) {
-        Ok(n) => Ok(n),
-        Err(_) => Err(Fault::TooLarge),
+    pub fn last_number<T: Number>(mut self) -> Result<T, Fault>
+        ensures { result_map_both T.value (λ e. e) result ≡ last_number T.bound (words self.entry.0.now) }
+    {
+        let n = self.number::<u32>()?;
+        self.end()?;
+        narrow(n.into())
     }
-}
-
-pub fn next_field(text: &[u8]) -> Result<(u16, &[u8]), Fault>
-    ensures { left result ≡ next_field (words text.now) }
-{
-    let (n, rest) = next_number(text)?;
-    Ok((field(n)?, rest))
-}
-
-pub fn last_field(text: &[u8]) -> Result<u16, Fault>
-    ensures { result ≡ last_field (words text.now) }
-{
-    field(last_number(text)?)
 }
 
 // A number that two bytes can carry, and what stands behind one space after it.
 pub fn number_and_text(text: &[u8]) -> Result<(u16, &[u8]), Fault>
     ensures { behind result ≡ number_and_text text.now }
 {
-    let Some((word, rest)) = next_word(text) else {
-        return Err(Fault::NumberMissing);
-    };
-    let k = field(number(word)?)?;
+    let (word, rest) = next_word(text).ok_or(Fault::NumberMissing)?;
+    let n = read_number(word)?;
     match rest {
-        [] => Ok((k, rest)),
-        [_, rest @ ..] => Ok((k, rest)),
+        [] => Ok((n, rest)),
+        [_, rest @ ..] => Ok((n, rest)),
     }
 }

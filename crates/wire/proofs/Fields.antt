@@ -1,8 +1,7 @@
 -- Numbers in two and in four bytes: what is written is read back, and bytes are written back.
-use Rattle.std.proofs.Common.{◌≡◌, ℕ, ◌+◌, ◌*◌, ◌/◌, ◌%◌, ◌<◌, ◌≤◌, true, List, [], ◌∷◌, ◌++◌, length, get_or, drop, sym, refl, ap, ◌∙◌, add_assoc, arith}
-use Rattle.std.proofs.lemmas.List.{get_or-drop, drop_more}
+use Rattle.std.proofs.Common.{◌≡◌, ℕ, ◌+◌, ◌*◌, ◌/◌, ◌%◌, ◌<◌, ◌≤◌, true, List, [], ◌∷◌, ◌++◌, length, get_or, drop, sym, ap, ◌∙◌, add_assoc, arith}
+use Rattle.std.proofs.lemmas.List.{drop_more}
 use Rattle.meaning.specs.Promise.{all_below}
-use Rattle.meaning.proofs.Below.{all_below_more, all_below_none}
 use Rattle.wire.specs.Bytes.{two, four, two_at, four_at}
 use Rattle.meaning.proofs.Below.{getD_below}
 
@@ -12,14 +11,6 @@ two_at_two n bs = omega arith
 pub four_at_four : (n : ℕ) (bs : List ℕ) → four_at (four n ++ bs) 0 ≡ n
 four_at_four n bs = omega arith
 
--- at any place
-pub two_at_drop : (bs : List ℕ) (i j : ℕ) → two_at (drop i bs) j ≡ two_at bs (i + j)
-two_at_drop bs i j = rw (get_or-drop i bs j 0, get_or-drop i bs (j + 1) 0, add_assoc i j 1) refl
-
-pub four_at_drop : (bs : List ℕ) (i j : ℕ) → four_at (drop i bs) j ≡ four_at bs (i + j)
-four_at_drop bs i j =
-    rw (get_or-drop i bs j 0, get_or-drop i bs (j + 1) 0, get_or-drop i bs (j + 2) 0, get_or-drop i bs (j + 3) 0, add_assoc i j 1, add_assoc i j 2, add_assoc i j 3) refl
-
 -- written in one way only, whatever follows
 pub two_and_rest : (m n : ℕ) (bs cs : List ℕ) → two m ++ bs ≡ two n ++ cs → (m ≡ n) × (bs ≡ cs)
 two_and_rest m n bs cs e = (sym (two_at_two m bs) ∙ ap (λ ds. two_at ds 0) e ∙ two_at_two n cs, ap (drop 2) e)
@@ -27,15 +18,7 @@ two_and_rest m n bs cs e = (sym (two_at_two m bs) ∙ ap (λ ds. two_at ds 0) e 
 pub four_and_rest : (m n : ℕ) (bs cs : List ℕ) → four m ++ bs ≡ four n ++ cs → (m ≡ n) × (bs ≡ cs)
 four_and_rest m n bs cs e = (sym (four_at_four m bs) ∙ ap (λ ds. four_at ds 0) e ∙ four_at_four n cs, ap (drop 4) e)
 
--- a number that fits is written in bytes
-pub two_below : (n : ℕ) → n < 65536 → all_below 256 (two n) ≡ true
-two_below n h = all_below_more 256 _ _ (omega arith) (all_below_more 256 _ _ (omega arith) (all_below_none 256))
-
-pub four_below : (n : ℕ) → n < 4294967296 → all_below 256 (four n) ≡ true
-four_below n h =
-    all_below_more 256 _ _ (omega arith) (all_below_more 256 _ _ (omega arith) (all_below_more 256 _ _ (omega arith) (all_below_more 256 _ _ (omega arith) (all_below_none 256))))
-
--- and bytes are a number that fits
+-- bytes are a number that fits
 pub two_at_below : (bs : List ℕ) (i : ℕ) → all_below 256 bs ≡ true → two_at bs i < 65536
 two_at_below bs i t = omega (arith, getD_below 256 bs i 0 (omega arith) t, getD_below 256 bs (i + 1) 0 (omega arith) t)
 

@@ -1,14 +1,16 @@
 -- Tokens scanned by their bytes, with a count of how many notes and commands are open.
-use Rattle.std.proofs.Common.{◌≡◌, ℕ, zero, suc, ◌+◌, ◌-◌, ◌<◌, ◌≤◌, List, [], ◌∷◌, length, get_or, drop, sym, refl, ap, ◌∙◌, ap₂, add-one, arith}
-use Rattle.std.proofs.lemmas.List.{drop_more, drop-drop, drop_all, length-drop}
+use Rattle.std.proofs.Common.{◌≡◌, ℕ, zero, suc, ◌+◌, ◌-◌, ◌<◌, ◌≤◌, List, [], ◌∷◌, length, get_or, drop, ◌⊎◌, sym, refl, ap, ◌∙◌, ap₂, inl, inr, add-one, arith}
+use Rattle.std.specs.List.{between}
+use Rattle.std.proofs.lemmas.List.{drop_more, take_rest}
 use Rattle.meaning.specs.Text.{Token, Tokens, none, letter, space, mark, page_of, note, command, given}
 use Rattle.wire.specs.Bytes.{Parsed, whole, broken, before, closed, token_first, parsed_in, parsed}
-use Rattle.wire.specs.Cut.{lead_of, extent_in, extent_of}
-use Rattle.wire.specs.declared.token.Lead.{Lead}
-use Rattle.wire.specs.declared.token.Lead.TheVariants.{Plain, Opens, Ends, Nothing}
+use Rattle.wire.specs.Cut.{extent_in, extent_of}
+use Rattle.wire.specs.Kinds.{token_byte, token_width}
+use Rattle.wire.specs.declared.kind.TokenKind.{TokenKind}
+use Rattle.wire.specs.declared.kind.TokenKind.TheVariants as Kinds
 use Rattle.wire.specs.declared.token.Extent.{Extent}
 use Rattle.wire.specs.declared.token.Extent.TheVariants.{End, Close, Break}
-use Rattle.wire.proofs.Parses.{parsed_step}
+use Rattle.wire.proofs.Parses.{parsed_step, parsed_end, parsed_unknown}
 
 -- where a scan comes to, with what is left there
 pub data Stop : Type 0 where
@@ -61,55 +63,81 @@ level_opens d make xs bs e = go (parsed bs) e
     go (whole ts (x ∷ left)) f = level_before d (make ts) xs left f
     go (broken ts left) f = level_breaks d xs left (ap stop_of f)
 
--- what each first byte does to the scan, by the table of first bytes
-pub lead_past : (x : ℕ) → 7 < x → lead_of x ≡ Nothing
-unfolding lead_of
-lead_past zero h = absurd (omega arith)
-lead_past (suc zero) h = absurd (omega arith)
-lead_past (suc (suc zero)) h = absurd (omega arith)
-lead_past (suc (suc (suc zero))) h = absurd (omega arith)
-lead_past (suc (suc (suc (suc zero)))) h = absurd (omega arith)
-lead_past (suc (suc (suc (suc (suc zero))))) h = absurd (omega arith)
-lead_past (suc (suc (suc (suc (suc (suc zero)))))) h = absurd (omega arith)
-lead_past (suc (suc (suc (suc (suc (suc (suc zero))))))) h = absurd (omega arith)
-lead_past (suc (suc (suc (suc (suc (suc (suc (suc k)))))))) h = refl
+level_ends : (d x : ℕ) (bs : List ℕ) → parsed (x ∷ bs) ≡ whole none (x ∷ bs) → level (suc d) (x ∷ bs) ≡ level d bs
+unfolding level
+level_ends d x bs e = ap (λ (p : Parsed). out_of (level d) (stop_of p)) e
 
--- what bytes are that begin so, by the table of first bytes
-pub record TokenLed (n : ℕ) (bs : List ℕ) : Type 0 where
-  pub some : 0 < n
-  pub short : length bs < n → parsed bs ≡ broken none []
-  pub full : n ≤ length bs → (t : Token) × (parsed bs ≡ before t (parsed (drop n bs)))
+-- how many are open behind a byte of a kind
+abbrev pub depth_behind : TokenKind → ℕ → ℕ
+depth_behind Kinds.Letter d = d
+depth_behind Kinds.Space d = d
+depth_behind Kinds.Mark d = d
+depth_behind Kinds.PageOf d = d
+depth_behind Kinds.Note d = d + 1
+depth_behind Kinds.Command d = d + 1
+depth_behind Kinds.Given d = d
+depth_behind Kinds.End d = d - 1
 
-pub record OpeningLed (n : ℕ) (bs : List ℕ) : Type 0 where
-  pub some : 0 < n
-  pub short : length bs < n → parsed bs ≡ broken none []
-  pub full : n ≤ length bs → (make : Tokens → Token) × (parsed bs ≡ closed make parsed (parsed (drop n bs)))
+pub deeper : (k : TokenKind) (d : ℕ) → (k ≡ Kinds.Note) ⊎ (k ≡ Kinds.Command) → depth_behind k d ≡ d + 1
+deeper k d (inl is) = ap (λ x. depth_behind x d) is
+deeper k d (inr is) = ap (λ x. depth_behind x d) is
 
-abbrev pub Led : Lead → List ℕ → Type 0
-Led (Plain n) bs = TokenLed n bs
-Led (Opens n) bs = OpeningLed n bs
-Led Ends bs = parsed bs ≡ whole none bs
-Led Nothing bs = parsed bs ≡ broken none bs
+pub no_end : (k : TokenKind) → (k ≡ Kinds.Note) ⊎ (k ≡ Kinds.Command) → k ≡ Kinds.End → ⊥
+no_end k (inl is) e = cc
+no_end k (inr is) e = cc
 
-pub led : (x : ℕ) (bs : List ℕ) → Led (lead_of x) (x ∷ bs)
-unfolding lead_of token_first
-led zero [] = record { some = omega arith; short = λ h. parsed_step 0 []; full = λ h. absurd (omega arith) }
-led zero (c ∷ bs) = record { some = omega arith; short = λ h. absurd (omega arith); full = λ h. (letter c, parsed_step 0 (c ∷ bs)) }
-led (suc zero) bs = record { some = omega arith; short = λ h. absurd (omega arith); full = λ h. (space, parsed_step 1 bs) }
-led (suc (suc zero)) [] = record { some = omega arith; short = λ h. parsed_step 2 []; full = λ h. absurd (omega arith) }
-led (suc (suc zero)) (c ∷ bs) = record { some = omega arith; short = λ h. absurd (omega arith); full = λ h. (mark c, parsed_step 2 (c ∷ bs)) }
-led (suc (suc (suc zero))) [] = record { some = omega arith; short = λ h. parsed_step 3 []; full = λ h. absurd (omega arith) }
-led (suc (suc (suc zero))) (c ∷ bs) = record { some = omega arith; short = λ h. absurd (omega arith); full = λ h. (page_of c, parsed_step 3 (c ∷ bs)) }
-led (suc (suc (suc (suc zero)))) bs = record { some = omega arith; short = λ h. absurd (omega arith); full = λ h. (note, parsed_step 4 bs) }
-led (suc (suc (suc (suc (suc zero))))) [] = record { some = omega arith; short = λ h. parsed_step 5 []; full = λ h. absurd (omega arith) }
-led (suc (suc (suc (suc (suc zero))))) (c ∷ bs) = record { some = omega arith; short = λ h. absurd (omega arith); full = λ h. (command c, parsed_step 5 (c ∷ bs)) }
-led (suc (suc (suc (suc (suc (suc zero)))))) bs = record { some = omega arith; short = λ h. absurd (omega arith); full = λ h. (given, parsed_step 6 bs) }
-led (suc (suc (suc (suc (suc (suc (suc zero))))))) bs = parsed_step 7 bs
-led (suc (suc (suc (suc (suc (suc (suc (suc k)))))))) bs = parsed_step (suc (suc (suc (suc (suc (suc (suc (suc k)))))))) bs
+pub as_deep : (k : TokenKind) (d : ℕ) → (k ≡ Kinds.Note → ⊥) → (k ≡ Kinds.Command → ⊥) → (k ≡ Kinds.End → ⊥) → depth_behind k d ≡ d
+as_deep Kinds.Letter d a b c = refl
+as_deep Kinds.Space d a b c = refl
+as_deep Kinds.Mark d a b c = refl
+as_deep Kinds.PageOf d a b c = refl
+as_deep Kinds.Note d a b c = absurd (a refl)
+as_deep Kinds.Command d a b c = absurd (b refl)
+as_deep Kinds.Given d a b c = refl
+as_deep Kinds.End d a b c = absurd (c refl)
 
--- the same of what stands in a row at i
-pub led_at : (bs : List ℕ) (i : ℕ) (l : Lead) → i < length bs → l ≡ lead_of (get_or bs i 0) → Led l (drop i bs)
-led_at bs i l h e = rw (e, drop_more bs i 0 h) (led (get_or bs i 0) (drop (i + 1) bs))
+pub some_width : (k : TokenKind) → 0 < token_width k
+some_width Kinds.Letter = omega arith
+some_width Kinds.Space = omega arith
+some_width Kinds.Mark = omega arith
+some_width Kinds.PageOf = omega arith
+some_width Kinds.Note = omega arith
+some_width Kinds.Command = omega arith
+some_width Kinds.Given = omega arith
+some_width Kinds.End = omega arith
+
+-- the scan goes on behind what a kind of token has
+step : (k : TokenKind) (bs : List ℕ) (d : ℕ) → token_width k ≤ suc (length bs) → (k ≡ Kinds.End → 0 < d) → level d (token_byte k ∷ bs) ≡ level (depth_behind k d) (drop (token_width k) (token_byte k ∷ bs))
+unfolding token_first
+step Kinds.Letter [] d fits some = absurd (omega arith)
+step Kinds.Letter (c ∷ bs) d fits some = level_before d (letter c) (0 ∷ (c ∷ bs)) bs (parsed_step 0 (c ∷ bs))
+step Kinds.Space bs d fits some = level_before d space (1 ∷ bs) bs (parsed_step 1 bs)
+step Kinds.Mark [] d fits some = absurd (omega arith)
+step Kinds.Mark (c ∷ bs) d fits some = level_before d (mark c) (2 ∷ (c ∷ bs)) bs (parsed_step 2 (c ∷ bs))
+step Kinds.PageOf [] d fits some = absurd (omega arith)
+step Kinds.PageOf (c ∷ bs) d fits some = level_before d (page_of c) (3 ∷ (c ∷ bs)) bs (parsed_step 3 (c ∷ bs))
+step Kinds.Note bs d fits some = rw add-one (level_opens d note (4 ∷ bs) bs (parsed_step 4 bs))
+step Kinds.Command [] d fits some = absurd (omega arith)
+step Kinds.Command (c ∷ bs) d fits some = rw add-one (level_opens d (command c) (5 ∷ (c ∷ bs)) bs (parsed_step 5 (c ∷ bs)))
+step Kinds.Given bs d fits some = level_before d given (6 ∷ bs) bs (parsed_step 6 bs)
+step Kinds.End bs zero fits some = absurd (omega (arith, some refl))
+step Kinds.End bs (suc d) fits some = level_ends d 7 bs (parsed_step 7 bs) ∙ ap (λ n. level n bs) (omega arith)
+
+-- it breaks where a token's byte is missing
+short : (k : TokenKind) (bs : List ℕ) (d : ℕ) → suc (length bs) < token_width k → level d (token_byte k ∷ bs) ≡ breaks []
+unfolding token_first
+short Kinds.Letter [] d h = level_breaks d (0 ∷ []) [] (ap stop_of (parsed_step 0 []))
+short Kinds.Letter (c ∷ bs) d h = absurd (omega arith)
+short Kinds.Space bs d h = absurd (omega arith)
+short Kinds.Mark [] d h = level_breaks d (2 ∷ []) [] (ap stop_of (parsed_step 2 []))
+short Kinds.Mark (c ∷ bs) d h = absurd (omega arith)
+short Kinds.PageOf [] d h = level_breaks d (3 ∷ []) [] (ap stop_of (parsed_step 3 []))
+short Kinds.PageOf (c ∷ bs) d h = absurd (omega arith)
+short Kinds.Note bs d h = absurd (omega arith)
+short Kinds.Command [] d h = level_breaks d (5 ∷ []) [] (ap stop_of (parsed_step 5 []))
+short Kinds.Command (c ∷ bs) d h = absurd (omega arith)
+short Kinds.Given bs d h = absurd (omega arith)
+short Kinds.End bs d h = absurd (omega arith)
 
 abbrev extent_at : List ℕ → Stop → Extent
 extent_at bs ended = End
@@ -125,65 +153,53 @@ extent_of_stop bs = go (parsed bs)
     go (whole ts (x ∷ left)) = refl
     go (broken ts left) = refl
 
-level_ends : (d x : ℕ) (bs : List ℕ) → parsed (x ∷ bs) ≡ whole none (x ∷ bs) → level (suc d) (x ∷ bs) ≡ level d bs
-unfolding level
-level_ends d x bs e = ap (λ (p : Parsed). out_of (level d) (stop_of p)) e
-
 level_none_left : (d : ℕ) → 0 < d → level d [] ≡ breaks []
 unfolding level parsed_in
 level_none_left zero h = absurd (omega arith)
 level_none_left (suc d) h = refl
 
--- the scan at i, with d open, has come to what the whole comes to
-module _ (bs : List ℕ) (i d : ℕ) (so_far : level d (drop i bs) ≡ level 0 bs) where
-  stops_at : (s : Stop) (x : Extent) → level d (drop i bs) ≡ s → x ≡ extent_at bs s → x ≡ extent_of bs
+-- the scan of what is left, with d open, comes to what the whole comes to
+module _ (bs rest : List ℕ) (d : ℕ) (so_far : level d rest ≡ level 0 bs) where
+  stops_at : (s : Stop) (x : Extent) → level d rest ≡ s → x ≡ extent_at bs s → x ≡ extent_of bs
   stops_at s x e f = f ∙ (ap (extent_at bs) (sym e ∙ so_far) ∙ extent_of_stop bs)
 
-  breaks_with : (left : List ℕ) (m : ℕ) → level d (drop i bs) ≡ breaks left → m ≡ length bs - length left → Break m ≡ extent_of bs
-  breaks_with left m e f = stops_at (breaks left) (Break m) e (ap Break f)
+  module _ (some : 0 < length rest) where
+    split : rest ≡ get_or rest 0 0 ∷ drop 1 rest
+    split = drop_more rest 0 0 some
 
-  module _ (h : i < length bs) where
-    here : drop i bs ≡ get_or bs i 0 ∷ drop (i + 1) bs
-    here = drop_more bs i 0 h
+    module _ (k : TokenKind) (is : token_byte k ≡ get_or rest 0 0) where
+      led : rest ≡ token_byte k ∷ drop 1 rest
+      led = split ∙ ap (λ x. x ∷ drop 1 rest) (sym is)
 
-    pub plain_again : (n : ℕ) → Plain n ≡ lead_of (get_or bs i 0) → n ≤ length bs - i → level d (drop (i + n) bs) ≡ level 0 bs
-    plain_again n e fits =
-        let (t, f) = (led_at bs i (Plain n) h e).full (rw length-drop fits) in
-        ap (level d) (sym (drop-drop n i bs)) ∙ (sym (level_before d t (drop i bs) (drop n (drop i bs)) f) ∙ so_far)
+      pub passed :
+          (w : ℕ) (behind : List ℕ) → w ≡ token_width k → behind ≡ between w (length rest) rest → w ≤ length rest → (k ≡ Kinds.End → 0 < d) →
+          level (depth_behind k d) behind ≡ level 0 bs
+      passed w behind width part fits open_some =
+          let left : behind ≡ drop (token_width k) (token_byte k ∷ drop 1 rest) = part ∙ (take_rest rest w ∙ ap₂ drop width led) in
+          ap (level (depth_behind k d)) left ∙ (sym (step k (drop 1 rest) d (omega (arith, ap length led)) open_some) ∙ (ap (level d) (sym led) ∙ so_far))
 
-    pub opens_again : (n : ℕ) → Opens n ≡ lead_of (get_or bs i 0) → n ≤ length bs - i → level (d + 1) (drop (i + n) bs) ≡ level 0 bs
-    opens_again n e fits =
-        let (make, f) = (led_at bs i (Opens n) h e).full (rw length-drop fits) in
-        rw add-one (ap (level (suc d)) (sym (drop-drop n i bs)) ∙ (sym (level_opens d make (drop i bs) (drop n (drop i bs)) f) ∙ so_far))
+      fewer : {a b : ℕ} → (b < a) ⊎ (b < b) → b < a
+      fewer (inl h) = h
+      fewer (inr h) = absurd (omega arith)
 
-    pub ends_again : Ends ≡ lead_of (get_or bs i 0) → 0 < d → level (d - 1) (drop (i + 1) bs) ≡ level 0 bs
-    ends_again e some =
-        let up : suc (d - 1) ≡ d = omega arith in
-        sym (level_ends (d - 1) (get_or bs i 0) (drop (i + 1) bs) (rw here at (led_at bs i Ends h e))) ∙ (ap₂ level up (sym here) ∙ so_far)
+      pub missing : (w : ℕ) → w ≡ token_width k → (length rest < w) ⊎ (length rest < length rest) → Break (length bs) ≡ extent_of bs
+      missing w width h = stops_at (breaks []) _ (ap (level d) led ∙ short k (drop 1 rest) d (omega (arith, ap length led, fewer h))) (ap Break (omega arith))
 
-    missing : (n : ℕ) → parsed (drop i bs) ≡ broken none [] → Break (length bs) ≡ extent_of bs
-    missing n e = breaks_with [] (length bs) (level_breaks d (drop i bs) [] (ap stop_of e)) (omega arith)
-
-    pub plain_short : (n : ℕ) → Plain n ≡ lead_of (get_or bs i 0) → length bs - i < n → Break (length bs) ≡ extent_of bs
-    plain_short n e short = missing n ((led_at bs i (Plain n) h e).short (rw length-drop short))
-
-    pub opens_short : (n : ℕ) → Opens n ≡ lead_of (get_or bs i 0) → length bs - i < n → Break (length bs) ≡ extent_of bs
-    opens_short n e short = missing n ((led_at bs i (Opens n) h e).short (rw length-drop short))
-
-    pub ends_here : Ends ≡ lead_of (get_or bs i 0) → d ≡ 0 → Close i ≡ extent_of bs
+    pub ends_here : get_or rest 0 0 ≡ 7 → d ≡ 0 → Close (length bs - length rest) ≡ extent_of bs
     unfolding level
     ends_here e none_open =
-        let k : i ≡ length bs - length (drop i bs) = rw length-drop (omega arith) in
-        let f : stop_of (parsed (drop i bs)) ≡ closes (drop i bs) = ap stop_of (led_at bs i Ends h e) ∙ rw here in
-        stops_at (closes (drop i bs)) (Close i) (ap (λ m. level m (drop i bs)) none_open ∙ f) (ap Close k)
+        let led : rest ≡ 7 ∷ drop 1 rest = split ∙ ap (λ x. x ∷ drop 1 rest) e in
+        stops_at (closes rest) _ (ap (λ m. level m rest) none_open ∙ (ap (λ xs. stop_of (parsed xs)) led ∙ (ap stop_of (parsed_end (drop 1 rest)) ∙ ap closes (sym led)))) refl
 
-    pub nothing_here : Nothing ≡ lead_of (get_or bs i 0) → Break i ≡ extent_of bs
-    nothing_here e = breaks_with (drop i bs) i (level_breaks d (drop i bs) (drop i bs) (ap stop_of (led_at bs i Nothing h e))) (rw length-drop (omega arith))
+    pub nothing_here : 7 < get_or rest 0 0 → Break (length bs - length rest) ≡ extent_of bs
+    nothing_here h =
+        stops_at (breaks rest) _
+        (ap (level d) split ∙ (level_breaks d _ _ (ap stop_of (parsed_unknown (get_or rest 0 0) (drop 1 rest) h)) ∙ ap breaks (sym split))) refl
 
   -- and at the end
-  pub all_read : length bs ≤ i → d ≡ 0 → End ≡ extent_of bs
+  pub all_read : rest ≡ [] → d ≡ 0 → End ≡ extent_of bs
   unfolding level parsed_in
-  all_read h e = stops_at ended End (ap₂ level e (drop_all i bs h)) refl
+  all_read h e = stops_at ended End (ap₂ level e h) refl
 
-  pub left_open : length bs ≤ i → (d ≡ 0 → ⊥) → Break (length bs) ≡ extent_of bs
-  left_open h e = breaks_with [] (length bs) (ap (level d) (drop_all i bs h) ∙ level_none_left d (omega arith)) (omega arith)
+  pub left_open : rest ≡ [] → (d ≡ 0 → ⊥) → Break (length bs) ≡ extent_of bs
+  left_open h e = stops_at (breaks []) _ (ap (level d) h ∙ level_none_left d (omega arith)) (ap Break (omega arith))

@@ -52,9 +52,6 @@ parsed_in_shortens n [] = omega arith
 parsed_in_shortens zero (x ∷ bs) = omega arith
 parsed_in_shortens (suc n) (x ∷ bs) = token_first_shortens (parsed_in n) x bs (parsed_in_shortens n)
 
-pub length_parsed_left : (bs : List ℕ) → length (parsed_left (parsed bs)) ≤ length bs
-length_parsed_left bs = parsed_in_shortens (length bs) bs
-
 -- so the steps allowed don't matter once they are as many as the bytes
 abbrev Alike : ℕ → (List ℕ → Parsed) → (List ℕ → Parsed) → Type 0
 Alike n go_on go_on' = (bs : List ℕ) → length bs ≤ n → go_on bs ≡ go_on' bs

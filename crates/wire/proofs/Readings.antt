@@ -51,7 +51,7 @@ read_back c h = reading_call_bytes c
 
 -- what is read as a call was no stop
 pub stops_no_call : (n : ℕ) (c : Call) → stops n ≡ is_call c → ⊥
-stops_no_call n c e = let z : ◌≡◌ {A = ℕ} 0 1 = cc in omega arith
+stops_no_call n c e = cc
 
 same_stops : (m n : ℕ) → stops m ≡ stops n → m ≡ n
 same_stops m n e = cc

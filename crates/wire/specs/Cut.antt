@@ -1,32 +1,19 @@
 -- Tokens cut off from bytes one by one.
---   lead_of      what a byte begins, where a token may begin
 --   extent_of    how far bytes are tokens
 --   enclosed_in  what a note or a command holds, and what stands behind its end byte
 --   token_of     the token that is meant by one of the code
 --   First        what it is to be the first token of bytes
---   BeginsWith  the first token of bytes, if they have one
-use Rattle.std.specs.Prelude.{◌≡◌, ℕ, zero, suc, ◌+◌, ◌-◌, List, [], ◌∷◌, ◌++◌, length, take, drop, Some, None, Option, ◌≢◌}
+--   BeginsWith   the first token of bytes, if they have one
+--   TakesFirst   the same, with what is left then; without a token all is left
+use Rattle.std.specs.Prelude.{◌≡◌, ℕ, ◌+◌, ◌-◌, List, [], ◌∷◌, ◌++◌, length, take, drop, Some, None, Option}
 use Rattle.std.specs.Borrow.{Bor}
 use Rattle.meaning.specs.Text
 use Rattle.meaning.specs.Text.{more, none, written, all_written}
 use Rattle.wire.specs.Bytes.{Parsed, whole, broken, parsed, tokens_of}
 use Rattle.wire.specs.declared.token.Token.{Token}
 use Rattle.wire.specs.declared.token.Token.TheVariants.{Letter, Space, Mark, PageOf, Note, Command, Given}
-use Rattle.wire.specs.declared.token.Lead.{Lead}
-use Rattle.wire.specs.declared.token.Lead.TheVariants.{Plain, Opens, Ends, Nothing}
 use Rattle.wire.specs.declared.token.Extent.{Extent}
 use Rattle.wire.specs.declared.token.Extent.TheVariants.{End, Close, Break}
-
-unfoldable pub lead_of : ℕ → Lead
-lead_of zero = Plain 2
-lead_of (suc zero) = Plain 1
-lead_of (suc (suc zero)) = Plain 2
-lead_of (suc (suc (suc zero))) = Plain 2
-lead_of (suc (suc (suc (suc zero)))) = Opens 1
-lead_of (suc (suc (suc (suc (suc zero))))) = Opens 2
-lead_of (suc (suc (suc (suc (suc (suc zero)))))) = Plain 1
-lead_of (suc (suc (suc (suc (suc (suc (suc zero))))))) = Ends
-lead_of (suc (suc (suc (suc (suc (suc (suc (suc k)))))))) = Nothing
 
 abbrev pub extent_in : List ℕ → Parsed → Extent
 extent_in bs (whole ts []) = End
@@ -72,6 +59,6 @@ abbrev pub BeginsWith : List ℕ → Option (Token × Bor (List ℕ)) → Type 0
 BeginsWith bs None = tokens_of bs ≡ none
 BeginsWith bs (Some p) = First bs p.0 p.1.now
 
--- not a kind of token that stands without a number
-abbrev pub Numbered : ℕ → Type 0
-Numbered k = (k ≢ 1) × (k ≢ 4) × (k ≢ 6)
+abbrev pub TakesFirst : List ℕ → Option Token → List ℕ → Type 0
+TakesFirst bs None rest = (tokens_of bs ≡ none) × (rest ≡ bs)
+TakesFirst bs (Some t) rest = First bs t rest

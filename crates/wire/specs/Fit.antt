@@ -1,5 +1,5 @@
 -- Whether tokens are good for the stage, and how much they count.
-use Rattle.std.specs.Prelude.{◌≡◌, ℕ, zero, suc, ◌+◌, ◌≤◌, List, length, IfSome, Some, None, Option}
+use Rattle.std.specs.Prelude.{◌≡◌, ℕ, ◌+◌, ◌≤◌, List, length, IfSome, Some, None, Option}
 use Rattle.meaning.specs.Text.{pick}
 use Rattle.meaning.specs.Calls.{size, size_of, good, good_one}
 use Rattle.wire.specs.Bytes.{tokens_of}
@@ -30,15 +30,6 @@ bytes_of Given = 1
 pub record MeasuresOne (t : Token) (depth : ℕ) (r : Option ℕ) : Type 0 where
   pub value : r ≡ pick (good_one stage_tokens (token_of t) depth) (Some (size_of (token_of t))) None
   pub bound : IfSome r (λ n. n ≤ bytes_of t)
-
--- what a note or a command counts that holds these tokens
-abbrev pub enclosed_size : List ℕ → ℕ → Option ℕ
-enclosed_size bs zero = None
-enclosed_size bs (suc depth) = pick (good stage_tokens (tokens_of bs) depth) (Some (2 + size (tokens_of bs))) None
-
-pub record MeasuresEnclosed (bs : List ℕ) (depth : ℕ) (r : Option ℕ) : Type 0 where
-  pub value : r ≡ enclosed_size bs depth
-  pub bound : IfSome r (λ n. n ≤ 2 + length bs)
 
 pub record Measures (bs : List ℕ) (depth : ℕ) (r : Option ℕ) : Type 0 where
   pub value : r ≡ pick (good stage_tokens (tokens_of bs) depth) (Some (size (tokens_of bs))) None

@@ -1,5 +1,6 @@
 pub mod Refusals
 pub mod Stage
+pub mod Kinds
 pub mod Bytes
 pub mod Laws
 pub mod Cut

@@ -2,30 +2,27 @@
 --   call_of, reading_of   the meaning of a call of the code, and of what reading gave
 --   WholeTokens          the tokens of a call are just the form of tokens
 --   Reads                 what reading a row of bytes gives
-use Rattle.std.specs.Prelude.{◌≡◌, ℕ, ◌+◌, List, Ok, Err, Result, nat_lt}
+use Rattle.std.specs.Prelude.{◌≡◌, ℕ, List, Ok, Err, Result}
 use Rattle.std.specs.Borrow.{Bor}
-use Rattle.meaning.specs.Text.{pick, Tokens, all_written}
+use Rattle.meaning.specs.Text.{Tokens, all_written}
 use Rattle.meaning.specs.Calls
 use Rattle.wire.specs.Bytes.{Reading, is_call, stops, with_tokens, tokens_of, reading}
+use Rattle.wire.specs.declared.refusal.Unreadable.{Unreadable}
 use Rattle.wire.specs.declared.call.Call.{Call}
 use Rattle.wire.specs.declared.call.Call.TheVariants.{Put, Cut, Define, Show, WhereIs, HowMany, PutIn}
-
--- n bytes and no more behind a call's first byte, or where there are too few or too many
-abbrev pub exact_length : ℕ → ℕ → Result (Unit {0}) ℕ
-exact_length n long = pick (nat_lt long n) (Err (1 + long)) (pick (nat_lt n long) (Err (1 + n)) (Ok tt))
 
 abbrev pub Whole : Bor (List ℕ) → Type 0
 Whole part = part.now ≡ all_written (tokens_of part.now)
 
-abbrev pub tokens_reading : (ℕ → Tokens → Calls.Call) → Result (ℕ × Bor (List ℕ)) ℕ → Reading
+abbrev pub tokens_reading : (ℕ → Tokens → Calls.Call) → Result (ℕ × Bor (List ℕ)) Unreadable → Reading
 tokens_reading make (Ok p) = is_call (make p.0 (tokens_of p.1.now))
-tokens_reading make (Err n) = stops n
+tokens_reading make (Err stop) = stops stop.at
 
-abbrev pub WholeOrNone : Result (ℕ × Bor (List ℕ)) ℕ → Type 0
+abbrev pub WholeOrNone : Result (ℕ × Bor (List ℕ)) Unreadable → Type 0
 WholeOrNone (Ok p) = Whole p.1
-WholeOrNone (Err n) = Unit {0}
+WholeOrNone (Err stop) = Unit {0}
 
-pub record ReadsTokens (fields : List ℕ) (r : Result (ℕ × Bor (List ℕ)) ℕ) : Type 0 where
+pub record ReadsTokens (fields : List ℕ) (r : Result (ℕ × Bor (List ℕ)) Unreadable) : Type 0 where
   pub value : (make : ℕ → Tokens → Calls.Call) → with_tokens make fields ≡ tokens_reading make r
   pub part : WholeOrNone r
 
@@ -47,14 +44,14 @@ WholeTokens (WhereIs q) = Unit {0}
 WholeTokens HowMany = Unit {0}
 WholeTokens (PutIn k part) = Whole part
 
-abbrev pub reading_of : Result Call ℕ → Reading
+abbrev pub reading_of : Result Call Unreadable → Reading
 reading_of (Ok c) = is_call (call_of c)
-reading_of (Err n) = stops n
+reading_of (Err stop) = stops stop.at
 
-abbrev pub WholeIfRead : Result Call ℕ → Type 0
+abbrev pub WholeIfRead : Result Call Unreadable → Type 0
 WholeIfRead (Ok c) = WholeTokens c
-WholeIfRead (Err n) = Unit {0}
+WholeIfRead (Err stop) = Unit {0}
 
-pub record Reads (bs : List ℕ) (r : Result Call ℕ) : Type 0 where
+pub record Reads (bs : List ℕ) (r : Result Call Unreadable) : Type 0 where
   pub value : reading bs ≡ reading_of r
   pub part : WholeIfRead r

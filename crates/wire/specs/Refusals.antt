@@ -1,5 +1,9 @@
 -- The list of refusals: each case's number, and the place that it names.
-use Rattle.std.specs.Prelude.{ℕ}
+--   refusal_number, refusal_place   what a refusal is told by
+--   unreadable                      the refusal of bytes that cease to be a call
+--   unreadable_text                 how the place where they cease to be one is told
+use Rattle.std.specs.Prelude.{ℕ, List, ◌++◌, codes, decimal, min}
+use Rattle.wire.specs.declared.refusal.Unreadable as Stops
 use Rattle.wire.specs.declared.refusal.Refusal.{Refusal}
 use Rattle.wire.specs.declared.refusal.Refusal.TheVariants.{Unreadable, Unfit, ShortTokens, ShortRest, BadOpening, NoParagraph, NoPage, NoRows, TooMuch}
 
@@ -25,3 +29,10 @@ refusal_place (NoParagraph k) = k
 refusal_place (NoPage k) = k
 refusal_place (NoRows row) = row
 refusal_place TooMuch = 0
+
+-- a place past four bytes is told as their last
+abbrev pub unreadable : Stops.Unreadable → Refusal
+unreadable stop = Unreadable (min stop.at 4294967295)
+
+abbrev pub unreadable_text : Stops.Unreadable → List ℕ
+unreadable_text stop = codes "no call from byte " ++ (decimal stop.at ++ codes " on")

@@ -1,11 +1,13 @@
 // Calls as bytes: a byte for the call, its numbers in two bytes each, a page's in four, and tokens to the end.
-ghost use Rattle.std.specs.Prelude.{◌≡◌, ℕ, ◌+◌, ◌<◌, ◌≤◌, length};
-ghost use Rattle.wire.specs.Bytes.{two_at, four_at};
-ghost use Rattle.wire.specs.Reads.{exact_length, ReadsTokens, Reads};
+ghost use Rattle.std.specs.Prelude.{◌≡◌, ◌≢◌, ◌+◌, ◌∷◌, length, min, MatchResult};
+ghost use Rattle.wire.specs.Kinds.{call_byte};
+ghost use Rattle.wire.specs.Reads.{ReadsTokens, Reads};
 
+use crate::kind::CallKind;
+use crate::refusal::Unreadable;
 use crate::token::Extent;
 
-#[derive(Clone, Copy)]
+#[derive(Clone, Copy, Debug, PartialEq, Eq)]
 pub enum Call<'a> {
     Put(u16, &'a [u8]),
     Cut(u16),
@@ -17,84 +19,66 @@ pub enum Call<'a> {
     PutIn(u16, &'a [u8]),
 }
 
-fn two_at(bytes: &[u8], i: usize) -> u16
-    requires { i + 1 < length bytes.now }
-    ensures { result ≡ two_at bytes.now i }
+// Behind a call's first byte there are N bytes and no more, or else this is where it ceases to be a call.
+fn exactly<const N: usize>(fields: &[u8]) -> Result<&[u8; N], Unreadable>
+    ensures { MatchResult result (λ array. (length fields.now ≡ N) × (array.now ≡ fields.now)) (λ stop. (length fields.now ≢ N) × (stop.at ≡ 1 + min (length fields.now) N)) }
 {
-    u16::from_be_bytes([bytes[i], bytes[i + 1]])
+    fields.as_array().ok_or(Unreadable {
+        at: 1 + fields.len().min(N),
+    })
 }
 
-fn four_at(bytes: &[u8], i: usize) -> u32
-    requires { i + 3 < length bytes.now }
-    ensures { result ≡ four_at bytes.now i }
-{
-    u32::from_be_bytes([bytes[i], bytes[i + 1], bytes[i + 2], bytes[i + 3]])
-}
-
-// Behind a call's first byte there are n bytes and no more, or else this is where it ceases to be a call.
-fn exactly(n: usize, fields: &[u8]) -> Result<(), usize>
-    requires { n ≤ 8 }
-    ensures { result ≡ exact_length n (length fields.now) }
-{
-    if fields.len() < n {
-        return Err(1 + fields.len());
-    }
-    if fields.len() > n {
-        return Err(1 + n);
-    }
-    Ok(())
-}
-
-fn number_and_tokens(fields: &[u8]) -> Result<(u16, &[u8]), usize>
+fn number_and_tokens(fields: &[u8]) -> Result<(u16, &[u8]), Unreadable>
     ensures { ReadsTokens fields.now result }
 {
-    if fields.len() < 2 {
-        return Err(1 + fields.len());
-    }
-    let tokens = &fields[2..];
+    let (number, tokens) = fields.split_first_chunk().ok_or(Unreadable {
+        at: 1 + fields.len(),
+    })?;
     match Extent::of(tokens) {
-        Extent::End => Ok((two_at(fields, 0), tokens)),
-        Extent::Close(n) => Err(3 + n),
-        Extent::Break(n) => Err(3 + n),
+        Extent::End => Ok((u16::from_be_bytes(*number), tokens)),
+        Extent::Close(n) | Extent::Break(n) => Err(Unreadable { at: 3 + n }),
+    }
+}
+
+// A call of a kind, by what stands behind its first byte.
+fn read_fields(kind: CallKind, fields: &[u8]) -> Result<Call<'_>, Unreadable>
+    ensures { Reads (call_byte kind ∷ fields.now) result }
+{
+    match kind {
+        CallKind::Put => {
+            let (k, tokens) = number_and_tokens(fields)?;
+            Ok(Call::Put(k, tokens))
+        }
+        CallKind::Cut => Ok(Call::Cut(u16::from_be_bytes(*exactly(fields)?))),
+        CallKind::Define => {
+            let (k, tokens) = number_and_tokens(fields)?;
+            Ok(Call::Define(k, tokens))
+        }
+        CallKind::Show => {
+            let [p0, p1, p2, p3, r0, r1, c0, c1] = *exactly::<8>(fields)?;
+            let page = u32::from_be_bytes([p0, p1, p2, p3]);
+            let row = u16::from_be_bytes([r0, r1]);
+            let count = u16::from_be_bytes([c0, c1]);
+            Ok(Call::Show(page, row, count))
+        }
+        CallKind::WhereIs => Ok(Call::WhereIs(u16::from_be_bytes(*exactly(fields)?))),
+        CallKind::HowMany => {
+            exactly::<0>(fields)?;
+            Ok(Call::HowMany)
+        }
+        CallKind::PutIn => {
+            let (k, tokens) = number_and_tokens(fields)?;
+            Ok(Call::PutIn(k, tokens))
+        }
     }
 }
 
 // The call that bytes are, or the place where they cease to be one.
-pub fn read_call(bytes: &[u8]) -> Result<Call<'_>, usize>
+pub fn read_call(bytes: &[u8]) -> Result<Call<'_>, Unreadable>
     ensures { Reads bytes.now result }
 {
-    let [kind, fields @ ..] = bytes else {
-        return Err(0);
-    };
-    match *kind {
-        0 => {
-            let (k, tokens) = number_and_tokens(fields)?;
-            Ok(Call::Put(k, tokens))
-        }
-        1 => {
-            exactly(2, fields)?;
-            Ok(Call::Cut(two_at(fields, 0)))
-        }
-        2 => {
-            let (k, tokens) = number_and_tokens(fields)?;
-            Ok(Call::Define(k, tokens))
-        }
-        3 => {
-            exactly(8, fields)?;
-            Ok(Call::Show(four_at(fields, 0), two_at(fields, 4), two_at(fields, 6)))
-        }
-        4 => {
-            exactly(2, fields)?;
-            Ok(Call::WhereIs(two_at(fields, 0)))
-        }
-        5 => {
-            exactly(0, fields)?;
-            Ok(Call::HowMany)
-        }
-        6 => {
-            let (k, tokens) = number_and_tokens(fields)?;
-            Ok(Call::PutIn(k, tokens))
-        }
-        _ => Err(0),
-    }
+    let stop = Unreadable { at: 0 };
+    let (byte, fields) = bytes.split_first().ok_or(stop)?;
+    let kind = CallKind::try_from(*byte).or(Err(stop))?;
+    read_fields(kind, fields)
 }

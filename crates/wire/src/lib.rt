@@ -4,6 +4,7 @@
 mod answer;
 mod call;
 mod fit;
+mod kind;
 mod laws;
 mod refusal;
 mod token;
@@ -11,6 +12,7 @@ mod token;
 pub use answer::{Answer, write_answer, write_letter, write_row, write_rows};
 pub use call::{Call, read_call};
 pub use fit::tokens_size;
+pub use kind::{AnswerKind, CallKind, NoKind, TokenKind};
 pub use laws::{only_read, read_back, stops_right, written_once};
-pub use refusal::Refusal;
-pub use token::{Token, next_token};
+pub use refusal::{Refusal, Unreadable};
+pub use token::{Token, Tokens, next_token};

@@ -1,6 +1,9 @@
 // Why something is turned away: the first case that applies, in the order of their numbers.
-ghost use Rattle.std.specs.Prelude.{◌≡◌};
-ghost use Rattle.wire.specs.Refusals.{refusal_number, refusal_place};
+ghost use Rattle.std.specs.Prelude.{◌≡◌, Some};
+ghost use Rattle.wire.specs.Refusals.{refusal_number, refusal_place, unreadable, unreadable_text};
+
+use std::error::Error;
+use std::fmt;
 
 #[derive(Clone, Copy, PartialEq, Eq, Debug)]
 pub enum Refusal {
@@ -24,6 +27,7 @@ pub enum Refusal {
     TooMuch,
 }
 
+// An answer's bytes, and what C is given, tell a refusal by these two numbers.
 impl Refusal {
     pub fn number(self) -> u8
         ensures { result ≡ refusal_number self }
@@ -42,13 +46,38 @@ impl Refusal {
         ensures { result ≡ refusal_place self }
     {
         match self {
-            Refusal::Unreadable(at) => at,
             Refusal::Unfit | Refusal::ShortTokens | Refusal::TooMuch => 0,
             Refusal::ShortRest => 1,
             Refusal::BadOpening => 2,
-            Refusal::NoParagraph(k) => k,
-            Refusal::NoPage(k) => k,
-            Refusal::NoRows(row) => row,
+            Refusal::Unreadable(place)
+            | Refusal::NoParagraph(place)
+            | Refusal::NoPage(place)
+            | Refusal::NoRows(place) => place,
         }
+    }
+}
+
+// Bytes that are no call, from this byte on; where they end too early, it is their length.
+#[derive(Clone, Copy, PartialEq, Eq, Debug)]
+pub struct Unreadable {
+    pub at: usize,
+}
+
+impl fmt::Display for Unreadable {
+    ghost output = { λ x. Some (unreadable_text x) };
+
+    fn fmt<W: fmt::Write>(&self, f: &mut fmt::Formatter<W>) -> fmt::Result {
+        write!(f, "no call from byte {} on", self.at)
+    }
+}
+
+impl Error for Unreadable {}
+
+// A place that is longer than four bytes can tell is told as the last that they can.
+impl From<Unreadable> for Refusal {
+    ghost from_gives = { λ stop why. why ≡ unreadable stop };
+
+    fn from(stop: Unreadable) -> Refusal {
+        Refusal::Unreadable(u32::try_from(stop.at).unwrap_or(u32::MAX))
     }
 }

@@ -1,9 +1,13 @@
 // Tokens as bytes: a byte for the kind, a letter, name or command in a byte, and what a note or a command holds up to an end byte.
-ghost use Rattle.std.specs.Prelude.{◌≡◌, ◌∷◌};
+ghost use Rattle.std.specs.Prelude.{◌≡◌, ◌∷◌, length};
+ghost use Rattle.std.specs.Iterator.{at_most};
 ghost use Rattle.std.specs.Option.{option_map};
-ghost use Rattle.wire.specs.Cut.{lead_of, extent_of, enclosed_in, Numbered, BeginsWith};
+ghost use Rattle.wire.specs.Kinds.{token_byte};
+ghost use Rattle.wire.specs.Cut.{extent_of, enclosed_in, BeginsWith, TakesFirst};
 
-#[derive(Clone, Copy)]
+use crate::kind::TokenKind;
+
+#[derive(Clone, Copy, Debug, PartialEq, Eq)]
 pub enum Token<'a> {
     Letter(u8),
     Space,
@@ -12,33 +16,6 @@ pub enum Token<'a> {
     Note(&'a [u8]),
     Command(u8, &'a [u8]),
     Given,
-}
-
-// What a byte begins, where a token may begin: one that takes so many bytes in all, or so many and then tokens up to an end byte.
-#[derive(Clone, Copy)]
-pub(crate) enum Lead {
-    Plain(usize),
-    Opens(usize),
-    Ends,
-    Nothing,
-}
-
-impl Lead {
-    fn of(kind: u8) -> Lead
-        ensures { result ≡ lead_of kind }
-    {
-        match kind {
-            0 => Lead::Plain(2),
-            1 => Lead::Plain(1),
-            2 => Lead::Plain(2),
-            3 => Lead::Plain(2),
-            4 => Lead::Opens(1),
-            5 => Lead::Opens(2),
-            6 => Lead::Plain(1),
-            7 => Lead::Ends,
-            _ => Lead::Nothing,
-        }
-    }
 }
 
 // How far bytes are tokens: to their end, to an end byte that closes nothing before it, or to a place where a byte fits no token or is missing.
@@ -54,38 +31,28 @@ impl Extent {
     pub(crate) fn of(bytes: &[u8]) -> Extent
         ensures { result ≡ extent_of bytes.now }
     {
-        let len = bytes.len();
-        let mut at = 0;
+        let mut rest = bytes;
         let mut depth = 0usize;
-        while at < len {
-            match Lead::of(bytes[at]) {
-                Lead::Plain(n) => {
-                    if len - at < n {
-                        return Extent::Break(len);
-                    }
-                    at += n;
-                }
-                Lead::Opens(n) => {
-                    if len - at < n {
-                        return Extent::Break(len);
-                    }
-                    at += n;
-                    depth += 1;
-                }
-                Lead::Ends => {
-                    if depth == 0 {
-                        return Extent::Close(at);
-                    }
-                    at += 1;
-                    depth -= 1;
-                }
-                Lead::Nothing => return Extent::Break(at),
+        while let [byte, ..] = rest {
+            let at = bytes.len() - rest.len();
+            let Ok(kind) = TokenKind::try_from(*byte) else {
+                return Extent::Break(at);
+            };
+            let Some(behind) = rest.get(kind.width()..) else {
+                return Extent::Break(bytes.len());
+            };
+            match kind {
+                TokenKind::Note | TokenKind::Command => depth += 1,
+                TokenKind::End if depth == 0 => return Extent::Close(at),
+                TokenKind::End => depth -= 1,
+                _ => {}
             }
+            rest = behind;
         }
         if depth == 0 {
             Extent::End
         } else {
-            Extent::Break(len)
+            Extent::Break(bytes.len())
         }
     }
 }
@@ -95,8 +62,40 @@ fn enclosed(bytes: &[u8]) -> Option<(&[u8], &[u8])>
     ensures { option_map (λ p. (p.0.now, p.1.now)) result ≡ enclosed_in bytes.now }
 {
     match Extent::of(bytes) {
-        Extent::Close(n) => Some((&bytes[0..n], &bytes[n + 1..])),
-        _ => None,
+        Extent::Close(n) => Some((&bytes[..n], &bytes[n + 1..])),
+        Extent::End | Extent::Break(_) => None,
+    }
+}
+
+// A token of a kind, by what stands behind its first byte.
+fn read_token(kind: TokenKind, rest: &[u8]) -> Option<(Token<'_>, &[u8])>
+    ensures { BeginsWith (token_byte kind ∷ rest.now) result }
+{
+    match kind {
+        TokenKind::Letter => {
+            let (letter, rest) = rest.split_first()?;
+            Some((Token::Letter(*letter), rest))
+        }
+        TokenKind::Space => Some((Token::Space, rest)),
+        TokenKind::Mark => {
+            let (name, rest) = rest.split_first()?;
+            Some((Token::Mark(*name), rest))
+        }
+        TokenKind::PageOf => {
+            let (name, rest) = rest.split_first()?;
+            Some((Token::PageOf(*name), rest))
+        }
+        TokenKind::Note => {
+            let (inside, rest) = enclosed(rest)?;
+            Some((Token::Note(inside), rest))
+        }
+        TokenKind::Command => {
+            let (name, rest) = rest.split_first()?;
+            let (inside, rest) = enclosed(rest)?;
+            Some((Token::Command(*name, inside), rest))
+        }
+        TokenKind::Given => Some((Token::Given, rest)),
+        TokenKind::End => None,
     }
 }
 
@@ -104,36 +103,25 @@ fn enclosed(bytes: &[u8]) -> Option<(&[u8], &[u8])>
 pub fn next_token(bytes: &[u8]) -> Option<(Token<'_>, &[u8])>
     ensures { BeginsWith bytes.now result }
 {
-    let [kind, rest @ ..] = bytes else {
-        return None;
-    };
-    match *kind {
-        1 => Some((Token::Space, rest)),
-        4 => {
-            let (inside, rest) = enclosed(rest)?;
-            Some((Token::Note(inside), rest))
-        }
-        6 => Some((Token::Given, rest)),
-        kind => numbered_token(kind, rest),
-    }
+    let (byte, rest) = bytes.split_first()?;
+    let kind = TokenKind::try_from(*byte).ok()?;
+    read_token(kind, rest)
 }
 
-// A token whose kind is followed by a number.
-fn numbered_token(kind: u8, bytes: &[u8]) -> Option<(Token<'_>, &[u8])>
-    requires { Numbered kind }
-    ensures { BeginsWith (kind ∷ bytes.now) result }
-{
-    let [number, rest @ ..] = bytes else {
-        return None;
-    };
-    match kind {
-        0 => Some((Token::Letter(*number), rest)),
-        2 => Some((Token::Mark(*number), rest)),
-        3 => Some((Token::PageOf(*number), rest)),
-        5 => {
-            let (inside, rest) = enclosed(rest)?;
-            Some((Token::Command(*number, inside), rest))
-        }
-        _ => None,
+// The tokens that bytes begin with, one behind another.
+#[derive(Drop)]
+pub struct Tokens<'a>(pub &'a [u8]);
+
+impl<'a> Iterator for Tokens<'a> {
+    type Item = Token<'a>;
+
+    ghost next_gives = { λ s r t. TakesFirst s.0.now r t.0.now };
+
+    ghost remaining = { λ s. at_most (length s.0.now) };
+
+    fn next(&mut self) -> Option<Token<'a>> {
+        let (token, rest) = next_token(self.0)?;
+        self.0 = rest;
+        Some(token)
     }
 }

@@ -38,22 +38,22 @@ module _ (can : ℕ → Bool) (few : LettersAndSpaces can) (ds : List Definition
   good_plainly (more given ts) depth g = absurd (omega (arith, few 6 (and_parts (can 6) (good can ts depth) g).0))
 
 -- what is read of these atoms, where they are all that the tokens are
-module _ (xs : List Atom) (bytes : List ℕ) (most : ℕ) (before after : List ℕ) (r : Option ℕ) (p : Plainly (tokens_of bytes) xs) (s : Reads bytes most before after r) where
-  read_within : plain_within most bytes ≡ pick (leb (bulk xs) most) (Some xs) None
-  read_within = ap (within most) p.value ∙ ap (λ n. pick (leb n most) (Some xs) None) (sym p.size)
+module _ (xs : List Atom) (bytes before after : List ℕ) (r : Option ℕ) (p : Plainly (tokens_of bytes) xs) (s : Reads bytes before after r) where
+  read_within : plain_within (length before) bytes ≡ pick (leb (bulk xs) (length before)) (Some xs) None
+  read_within = ap (within (length before)) p.value ∙ ap (λ n. pick (leb n (length before)) (Some xs) None) (sym p.size)
 
   count_picked : (b : Bool) → how_many (pick b (Some xs) None) ≡ pick b (Some (length xs)) None
   count_picked true = refl
   count_picked false = refl
 
-  read_count : r ≡ pick (leb (bulk xs) most) (Some (length xs)) None
-  read_count = s.count ∙ ap how_many read_within ∙ count_picked (leb (bulk xs) most)
+  read_count : r ≡ pick (leb (bulk xs) (length before)) (Some (length xs)) None
+  read_count = s.count ∙ ap how_many read_within ∙ count_picked (leb (bulk xs) (length before))
 
   read_numbers : (n : ℕ) → r ≡ Some n → map atom_number xs ≡ take n after
   read_numbers n e =
-      let q = some_picked (leb (bulk xs) most) n (length xs) (sym e ∙ read_count) in
-      let holds : after ≡ map atom_number xs ++ drop (length xs) before = s.holds ∙ ap (λ o. with_atoms most o before) (read_within ∙ pick_true _ _ _ q.0) in
+      let q = some_picked (leb (bulk xs) (length before)) n (length xs) (sym e ∙ read_count) in
+      let holds : after ≡ map atom_number xs ++ drop (length xs) before = s.holds ∙ ap (λ o. with_atoms o before) (read_within ∙ pick_true _ _ _ q.0) in
       sym (ap (take n) holds ∙ take_at (map atom_number xs) (drop (length xs) before) n (length-map xs atom_number ∙ sym q.1))
 
-  pub reads_good : ReadsGood xs most after r
+  pub reads_good : ReadsGood xs (length before) after r
   reads_good = record { plain = p.plain; count = read_count; numbers = read_numbers }

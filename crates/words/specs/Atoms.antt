@@ -4,15 +4,19 @@
 --   is_plain      a letter of one byte, or a gap
 --   plain_atoms   the atoms of letters and spaces; none where a token is something else
 --   plain_within  these, where there are at most so many
---   Reads         what reading leaves
---   Writes        the same, but that without atoms the part for them is left as it then is
---   cleared       a row whose first numbers are 0
-use Rattle.std.specs.Prelude.{◌≡◌, ℕ, ◌+◌, Bool, true, false, ◌&&◌, List, [], ◌∷◌, ◌++◌, map, length, drop, replicate, Some, None, Option, nat_le, nat_lt}
+--   AtomOf        what it is to be the atom of a token, or to have none
+--   Reads         what reading leaves in a row that is for atoms alone
+--   Writes        the same, but that without atoms the row is left as it then is
+--   cleared       a row whose first numbers are 0 again, for the crates above
+use Rattle.std.specs.Prelude.{◌≡◌, ℕ, ◌+◌, Bool, true, false, ◌&&◌, List, [], ◌∷◌, ◌++◌, map, length, drop, replicate, Some, None, Option, Result, MatchResult, nat_le, nat_lt}
 use Rattle.meaning.specs.Text
 use Rattle.meaning.specs.Text.{pick, ch, gap, tag, foot, Token, letter, space, mark, page_of, note, command, given, Tokens, none, more}
 use Rattle.wire.specs.Bytes.{tokens_of}
+use Rattle.wire.specs.Cut.{token_of}
+use Rattle.wire.specs.declared.token.Token
 use Rattle.words.specs.declared.read.Atom.{Atom}
 use Rattle.words.specs.declared.read.Atom.TheVariants.{Letter, Gap}
+use Rattle.words.specs.declared.read.NoAtom.{NoAtom}
 
 -- letters are below 256; there are no notes yet
 abbrev pub atom_number : Text.Atom → ℕ
@@ -44,6 +48,10 @@ plain_atom (note ts) = None
 plain_atom (command k ts) = None
 plain_atom given = None
 
+abbrev pub AtomOf : Token.Token → Result Atom NoAtom → Type 0
+AtomOf t r =
+    MatchResult r (λ a. (plain_atom (token_of t) ≡ Some (atom_of a)) × (is_plain (atom_of a) ≡ true)) (λ e. plain_atom (token_of t) ≡ None)
+
 -- none where either is none
 abbrev pub before_all : Option Text.Atom → Option (List Text.Atom) → Option (List Text.Atom)
 before_all None xs = None
@@ -66,27 +74,27 @@ how_many None = None
 how_many (Some xs) = Some (length xs)
 
 abbrev pub cleared : ℕ → List ℕ → List ℕ
-cleared n work = replicate n 0 ++ drop n work
+cleared n row = replicate n 0 ++ drop n row
 
--- the atoms from the start of the row on, and all else as it was; without atoms the part for them is cleared
-abbrev pub with_atoms : ℕ → Option (List Text.Atom) → List ℕ → List ℕ
-with_atoms bulk None work = cleared bulk work
-with_atoms bulk (Some xs) work = map atom_number xs ++ drop (length xs) work
+-- the atoms from the start of the row on, and all else as it was; without atoms there are only zeros
+abbrev pub with_atoms : Option (List Text.Atom) → List ℕ → List ℕ
+with_atoms None row = replicate (length row) 0
+with_atoms (Some xs) row = map atom_number xs ++ drop (length xs) row
 
 abbrev pub PlainIfAny : Option (List Text.Atom) → Type 0
 PlainIfAny None = Unit {0}
 PlainIfAny (Some xs) = all_plain xs ≡ true
 
-pub record Reads (bytes : List ℕ) (bulk : ℕ) (before after : List ℕ) (r : Option ℕ) : Type 0 where
-  pub count : r ≡ how_many (plain_within bulk bytes)
-  pub holds : after ≡ with_atoms bulk (plain_within bulk bytes) before
-  pub plain : PlainIfAny (plain_within bulk bytes)
+pub record Reads (bytes before after : List ℕ) (r : Option ℕ) : Type 0 where
+  pub count : r ≡ how_many (plain_within (length before) bytes)
+  pub holds : after ≡ with_atoms (plain_within (length before) bytes) before
+  pub plain : PlainIfAny (plain_within (length before) bytes)
 
-abbrev pub Written : ℕ → Option (List Text.Atom) → List ℕ → List ℕ → Type 0
-Written bulk None before after = drop bulk after ≡ drop bulk before
-Written bulk (Some xs) before after = after ≡ map atom_number xs ++ drop (length xs) before
+abbrev pub Written : Option (List Text.Atom) → List ℕ → List ℕ → Type 0
+Written None before after = Unit {0}
+Written (Some xs) before after = after ≡ with_atoms (Some xs) before
 
-pub record Writes (bytes : List ℕ) (bulk : ℕ) (before after : List ℕ) (r : Option ℕ) : Type 0 where
-  pub count : r ≡ how_many (plain_within bulk bytes)
-  pub holds : Written bulk (plain_within bulk bytes) before after
-  pub plain : PlainIfAny (plain_within bulk bytes)
+pub record Writes (bytes before after : List ℕ) (r : Option ℕ) : Type 0 where
+  pub count : r ≡ how_many (plain_within (length before) bytes)
+  pub holds : Written (plain_within (length before) bytes) before after
+  pub plain : PlainIfAny (plain_within (length before) bytes)

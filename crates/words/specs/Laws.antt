@@ -4,8 +4,8 @@
 --   ReadsGood      reading these atoms fails only for want of room, and else they stand at the start of the row
 --   GoodAreRead   so it is where good tokens are read
 --   Measured        a row of slots has the widths of these words, all small enough for the line breaker
---   SlotsMeasured  so it is behind the atoms once they are split
-use Rattle.std.specs.Prelude.{◌≡◌, ℕ, ◌+◌, ◌*◌, ◌<◌, ◌≤◌, Bool, true, List, map, length, take, drop, Some, None, Option, nat_le, slice_index, slice_index_or}
+--   SlotsMeasured  so it is where atoms were split
+use Rattle.std.specs.Prelude.{◌≡◌, ℕ, ◌+◌, ◌*◌, ◌<◌, ◌≤◌, Bool, true, List, map, length, take, Some, None, Option, nat_le, slice_index, slice_index_or}
 use Rattle.meaning.specs.Text.{pick, Atom, Tokens, Definition, atoms}
 use Rattle.meaning.specs.Lines.{Word, nothing_yet, split, long}
 use Rattle.meaning.specs.Calls.{good, bulk}
@@ -34,9 +34,9 @@ pub record ReadsGood (xs : List Atom) (most : ℕ) (after : List ℕ) (r : Optio
 
 abbrev pub GoodAreRead : Type 0
 GoodAreRead =
-    (can : ℕ → Bool) (bytes : List ℕ) (depth : ℕ) (ds : List Definition) (pg : ℕ → ℕ) (most : ℕ) (before after : List ℕ) (r : Option ℕ) →
-    LettersAndSpaces can → good can (tokens_of bytes) depth ≡ true → Reads bytes most before after r →
-    ReadsGood (atoms ds pg (tokens_of bytes)) most after r
+    (can : ℕ → Bool) (bytes : List ℕ) (depth : ℕ) (ds : List Definition) (pg : ℕ → ℕ) (before after : List ℕ) (r : Option ℕ) →
+    LettersAndSpaces can → good can (tokens_of bytes) depth ≡ true → Reads bytes before after r →
+    ReadsGood (atoms ds pg (tokens_of bytes)) (length before) after r
 
 pub record Measured (wide : ℕ → ℕ) (ws : List Word) (slots : List ℕ) (n : ℕ) : Type 0 where
   pub as_many : length ws ≡ n
@@ -47,6 +47,6 @@ pub record Measured (wide : ℕ → ℕ) (ws : List Word) (slots : List ℕ) (n 
 
 abbrev pub SlotsMeasured : Type 0
 SlotsMeasured =
-    (wide : ℕ → ℕ) (before after : List ℕ) (most count n : ℕ) (xs : List Atom) → count ≤ most → most ≤ 4096 → 9 * most ≤ length before →
-    Stays before after most count n → Splits wide before after most count n → all_plain xs ≡ true → map atom_number xs ≡ take count before →
-    Measured wide (split xs nothing_yet) (drop most after) n
+    (wide : ℕ → ℕ) (numbers before after : List ℕ) (n : ℕ) (xs : List Atom) → length numbers ≤ 4096 → 8 * length numbers ≤ length before →
+    Stays before after (length numbers) n → Splits wide numbers after n → all_plain xs ≡ true → map atom_number xs ≡ numbers →
+    Measured wide (split xs nothing_yet) after n

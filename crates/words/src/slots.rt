@@ -1,9 +1,9 @@
-// Words, each in a slot of eight numbers behind the atoms.
+// Words, each in a slot of eight numbers.
 ghost use Rattle.std.specs.Prelude.{◌≡◌, ◌+◌, ◌^◌, ◌<◌, ◌≤◌, length, ◌==◌};
 ghost use Rattle.meaning.specs.Text.{pick};
-ghost use Rattle.words.specs.Slots.{slot_place, word_in, with_slot, no_letters, with_letter};
+ghost use Rattle.words.specs.Slots.{slot_place, slot_numbers, slot_word, word_in, with_slot, no_letters, with_letter};
 
-const SLOT: usize = 8;
+use linebreak::SLOT;
 
 // A word's atoms are so many from the first on; its width is that of its letters together.
 #[derive(Clone, Copy)]
@@ -36,46 +36,50 @@ impl Word {
     }
 }
 
-// The word that slot k has.
-pub fn word_at(work: &[u64], bulk: usize, k: usize) -> Word
-    requires { slot_place bulk (k + 1) ≤ length work.now }
-    ensures { result ≡ word_in work.now bulk k }
-{
-    let at = bulk + SLOT * k;
-    Word {
-        first: work[at] as usize,
-        atoms: work[at + 1] as usize,
-        width: work[at + 2] as usize,
+impl From<&[u64; SLOT]> for Word {
+    ghost from_gives = { λ slot word. word ≡ slot_word slot.now };
+
+    fn from(slot: &[u64; SLOT]) -> Word {
+        let [first, atoms, width, ..] = *slot;
+        Word {
+            first: first as usize,
+            atoms: atoms as usize,
+            width: width as usize,
+        }
     }
 }
 
-fn put_word(work: &mut [u64], bulk: usize, k: usize, word: Word)
-    requires { slot_place bulk (k + 1) ≤ length work.old }
-    ensures { work.new ≡ with_slot work.old bulk k word }
+impl From<Word> for [u64; SLOT] {
+    ghost from_gives = { λ word slot. slot ≡ slot_numbers word };
+
+    fn from(word: Word) -> [u64; SLOT] {
+        let Word {
+            first,
+            atoms,
+            width,
+        } = word;
+        [first as u64, atoms as u64, width as u64, 0, 0, 0, 0, 0]
+    }
+}
+
+// The word that slot k has.
+pub fn word_at(slots: &[u64], k: usize) -> Word
+    requires { slot_place (k + 1) ≤ length slots.now }
+    ensures { result ≡ word_in slots.now k }
 {
-    let at = bulk + SLOT * k;
-    let slot = [
-        word.first as u64,
-        word.atoms as u64,
-        word.width as u64,
-        0,
-        0,
-        0,
-        0,
-        0,
-    ];
-    work[at..at + SLOT].copy_from_slice(&slot);
+    Word::from(&slots.as_chunks().0[k])
 }
 
 // How many words there are then: one without letters is none.
-pub(crate) fn close_word(work: &mut [u64], bulk: usize, k: usize, word: Word) -> usize
-    requires { ((0 < word.atoms → slot_place bulk (k + 1) ≤ length work.old)) × ((k ≤ bulk) × (bulk ≤ 4096)) }
+pub(crate) fn close_word(slots: &mut [u64], k: usize, word: Word) -> usize
+    requires { ((0 < word.atoms → slot_place (k + 1) ≤ length slots.old)) × (k ≤ 4096) }
     ensures value { result ≡ pick (word.atoms == 0) k (k + 1) }
-    ensures after { work.new ≡ pick (word.atoms == 0) work.old (with_slot work.old bulk k word) }
+    ensures after { slots.new ≡ pick (word.atoms == 0) slots.old (with_slot slots.old k word) }
 {
     if word.atoms == 0 {
         return k;
     }
-    put_word(work, bulk, k, word);
+    let at = SLOT * k;
+    slots[at..at + SLOT].copy_from_slice(&<[u64; SLOT]>::from(word));
     k + 1
 }

@@ -11,30 +11,26 @@ pub fn letter_width(widths: &[u8; 95], letter: u64) -> usize
     ensures small { result ≤ 255 }
 {
     let k = letter.saturating_sub(32) as usize;
-    if k < widths.len() {
-        widths[k] as usize
-    } else {
-        1
-    }
+    widths.get(k).map_or(1, |width| usize::from(*width))
 }
 
 // How many words there are, each in its slot.
-pub fn split_words(work: &mut [u64], bulk: usize, atoms: usize, widths: &[u8; 95]) -> usize
-    requires { (atoms ≤ bulk) × ((bulk ≤ 4096) × (9 * bulk ≤ length work.old)) }
-    ensures words { Splits (wide_by widths.now) work.old work.new bulk atoms result }
-    ensures same { Stays work.old work.new bulk atoms result }
-    ensures narrow { (k : ℕ) → k < result → (word_in work.new bulk k).width ≤ 1048576 }
+pub fn split_words(atoms: &[u64], slots: &mut [u64], widths: &[u8; 95]) -> usize
+    requires { (length atoms.now ≤ 4096) × (8 * length atoms.now ≤ length slots.old) }
+    ensures words { Splits (wide_by widths.now) atoms.now slots.new result }
+    ensures same { Stays slots.old slots.new (length atoms.now) result }
+    ensures narrow { (k : ℕ) → k < result → (word_in slots.new k).width ≤ 1048576 }
 {
     let mut words = 0;
     let mut word = Word::starting(0);
-    for at in 0..atoms {
-        let atom = work[at];
-        if atom == GAP {
-            words = close_word(work, bulk, words, word);
+    for (at, atom) in atoms.iter().enumerate() {
+        // Compared as numbers: one that is no atom counts as a letter here, and only a gap ends a word.
+        if *atom == GAP {
+            words = close_word(slots, words, word);
             word = Word::starting(at + 1);
         } else {
-            word = word.with_letter(letter_width(widths, atom));
+            word = word.with_letter(letter_width(widths, *atom));
         }
     }
-    close_word(work, bulk, words, word)
+    close_word(slots, words, word)
 }

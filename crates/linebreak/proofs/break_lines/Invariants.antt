@@ -1,15 +1,8 @@
-use Rattle.std.proofs.Common.{ℕ, ◌+◌, ◌-◌, ◌*◌, ◌≤◌, List}
+use Rattle.std.proofs.Common.{ℕ, List}
 use Rattle.meaning.specs.Lines.{Word}
 use Rattle.linebreak.specs.Slots.{Measured, Leaves}
-use Rattle.linebreak.proofs.Tries.{SolvedFrom, Tried}
-use Rattle.linebreak.proofs.Writes.{dearest, SmallFrom}
+use Rattle.linebreak.specs.Ways.{SolvedFrom, SmallFrom}
 use Rattle.linebreak.proofs.break_lines.Given as goal
-
--- of the first lines that end before word j, the best is known
-abbrev pub invariant-loop-j : goal.invariant-loop-j
-invariant-loop-j l =
-    (l.natural ≤ 1048831 * (l.j - l.i)) × (l.cost ≤ dearest * (l.n - l.i)) × (l.words ≤ l.j - l.i)
-    × ((wide : ℕ → ℕ) (ws : List Word) → Measured wide ws l.slots l.n l.space → SolvedFrom wide l.width ws l.slots l.n (l.i + 1) → Tried wide l.width ws l.i (l.j - l.i) l.natural l.cost l.words)
 
 -- the slots from i on have the best lines
 abbrev pub invariant-loop-i : goal.invariant-loop-i

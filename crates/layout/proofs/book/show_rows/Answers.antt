@@ -1,27 +1,44 @@
-use Rattle.std.proofs.Common.{length, sym, ◌∙◌, arith}
+use Rattle.std.proofs.Common.{rules, ℕ, List, ◌++◌, length, sym, ap, ◌∙◌, arith, cond, is_ok}
 use Rattle.meaning.proofs.Picks.{pick_true}
+use Rattle.wire.specs.Bytes.{over}
 use Rattle.store.specs.Kept.{is_open}
-use Rattle.layout.proofs.OpenBooks.{looked_at, work_room, worked_again}
+use Rattle.layout.specs.Asked.{shown_of, bytes_of_rows}
+use Rattle.layout.proofs.OpenBooks.{looked_at, cut_room, stands_apart, pages_there, cleaned}
 use Rattle.layout.proofs.book.show_rows.Goals as goal
 
-pub show_wanted-shown-requires : goal.show_wanted-shown-requires
-show_wanted-shown-requires c =
-    let few = c.ranges.row.fits in
-    let small = c.ranges.count.fits in
-    (looked_at c.args.tokens.now c.args.rest.now c.in-Some.book c.in-Some.ensures, (c.ranges.page.fits, (omega arith, (omega arith, c.requires))))
+pub split_at_mut-front-requires : goal.split_at_mut-front-requires
+split_at_mut-front-requires c =
+    let book = looked_at c.look.ensures c.ok_or.ensures.ok_part c.in_ok-kept.was in
+    omega (arith, cut_room book c.front_len.ensures)
 
-pub clean-requires : goal.clean-requires
-clean-requires c = work_room c.args.tokens.now c.args.rest.now c.in-Some.book c.in-Some.ensures c.show_wanted-shown.new.rest c.show_wanted-shown.ensures.same
+pub of-book-requires : goal.of-book-requires
+of-book-requires c =
+    let book = looked_at c.look.ensures c.ok_or.ensures.ok_part c.in_ok-kept.was in
+    let halves = c.split_at_mut-front.ensures in
+    stands_apart book c.front_len.ensures halves.front halves.back
 
-pub returns : goal.returns
-returns c =
-    let ts = c.args.tokens.now in
-    let rs = c.args.rest.now in
-    let here = looked_at ts rs c.in-Some.book c.in-Some.ensures in
-    record {
-      value = c.show_wanted-shown.ensures.value ∙ sym (pick_true (is_open (length ts) rs) _ _ here.opened);
-      written = c.show_wanted-shown.ensures.after;
-      after =
-          worked_again ts rs c.in-Some.book c.in-Some.ensures c.show_wanted-shown.new.rest c.clean.new.rest c.show_wanted-shown.ensures.same c.clean.ensures
-          ∙ sym (pick_true (is_open (length ts) rs) _ _ here.opened);
-    }
+pub returns-clause-value : goal.returns-clause-value
+returns-clause-value c =
+    let book = looked_at c.look.ensures c.ok_or.ensures.ok_part c.in_ok-kept.was in
+    let halves = c.split_at_mut-front.ensures in
+    let pages = pages_there book c.front_len.ensures halves.front halves.back c.of-book.ensures.sheet c.of-book.ensures.paragraphs in
+    c.show-shown.ensures.value
+    ∙ (ap (λ ps. shown_of ps c.args.page c.args.row c.args.count) (sym pages) ∙ sym (pick_true (is_open (length c.args.tokens.now) c.args.rest.now) _ _ book.opened))
+
+pub returns-clause-written : goal.returns-clause-written
+returns-clause-written c =
+    let book = looked_at c.look.ensures c.ok_or.ensures.ok_part c.in_ok-kept.was in
+    let halves = c.split_at_mut-front.ensures in
+    let pages = pages_there book c.front_len.ensures halves.front halves.back c.of-book.ensures.sheet c.of-book.ensures.paragraphs in
+    c.show-shown.ensures.after
+    ∙ ap (λ ps. cond (is_ok c.show-shown.result) (over (bytes_of_rows ps c.args.page c.args.row c.args.count) c.args.out.now) c.args.out.now) (sym pages)
+
+pub returns-clause-after : goal.returns-clause-after
+returns-clause-after c =
+    let book = looked_at c.look.ensures c.ok_or.ensures.ok_part c.in_ok-kept.was in
+    let halves = c.split_at_mut-front.ensures in
+    let same = c.show-shown.ensures.same in
+    let lent = c.clean.ensures.same.lent ∙ (same.lent ∙ c.of-book.ensures.lent) in
+    ap (λ (xs : List ℕ). c.split_at_mut-front.result.0.now ++ xs) (search (rules, lent))
+    ∙ (cleaned book c.front_len.ensures halves.front halves.back _ c.of-book.ensures.sheet same.sheet c.of-book.ensures.work same.behind c.clean.ensures.zeros
+    ∙ sym (pick_true (is_open (length c.args.tokens.now) c.args.rest.now) _ _ book.opened))

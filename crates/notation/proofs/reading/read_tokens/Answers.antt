@@ -1,28 +1,22 @@
-use Rattle.std.proofs.Common.{◌≡◌, true, false, [], ◌∷◌, length, get_or, vec_items, codes, sym, refl, ap, ◌∙◌, subst, inl, inr, append-nil, arith}
+use Rattle.std.proofs.Common.{◌≡◌, [], ◌∷◌, length, get_or, vec_items, sym, refl, ap, ◌∙◌, subst, inr, append-nil, arith}
 use Rattle.std.specs.List.{between}
 use Rattle.std.proofs.lemmas.List.{nil_from_length}
 use Rattle.std.proofs.lemmas.Slice.{first_rest}
 use Rattle.std.proofs.lemmas.Result.{err_from_is_err_and}
 use Rattle.std.proofs.lemmas.Bool.{ltb-true, ltb-false}
 use Rattle.notation.specs.Noted.{noted, noted_from}
-use Rattle.notation.proofs.Sames.{same_as_told}
-use Rattle.notation.proofs.SoFar.{SoFar, so_far_none, so_far_fault, shorter, so_far_deep, so_far_more, so_far_open, so_far_all}
+use Rattle.notation.proofs.SoFar.{SoFar, so_far_fault, shorter, so_far_deep, so_far_more, so_far_open, so_far_all}
 use Rattle.notation.proofs.reading.read_tokens.Goals as goal
-use Rattle.notation.proofs.reading.read_tokens.Goals.{Else-eq, In-len1-up, In_default}
+use Rattle.notation.proofs.reading.read_tokens.Goals.{Else-says_none, In-len1-up, In_default}
 
-pub returns-then-eq : goal.returns-then-eq
+pub returns-then-says_none : goal.returns-then-says_none
 unfolding noted
-returns-then-eq c =
-    let none = same_as_told c.args.text.now (92 ∷ codes "none") true _ c.as_slice.ensures c.if-eq.ensures in
-    ([], rw none refl, sym (append-nil (vec_items c.args.out.now)))
-
-pub loop-rest-init : goal.loop-rest-init
-loop-rest-init c = so_far_none c.args.text.now (vec_items c.args.out.now)
+returns-then-says_none c = ([], rw (sym c.says_none.ensures ∙ c.if-says_none.true) refl, sym (append-nil (vec_items c.args.out.now)))
 
 -- what is not just \none
-not_none : (c : Else-eq) → noted c.args.text.now ≡ noted_from 0 c.args.text.now
+not_none : (c : Else-says_none) → noted c.args.text.now ≡ noted_from 0 c.args.text.now
 unfolding noted
-not_none c = rw (same_as_told c.args.text.now (92 ∷ codes "none") false _ c.as_slice.ensures c.if-eq.ensures) refl
+not_none c = rw (sym c.says_none.ensures ∙ c.if-says_none.false) refl
 
 -- where a piece is read
 first : (c : In-len1-up) → c.loop-rest.rest.now ≡ get_or c.loop-rest.rest.now 0 0 ∷ between 1 (length c.loop-rest.rest.now) c.loop-rest.rest.now
@@ -43,23 +37,15 @@ pub returns-in_err-piece : goal.returns-in_err-piece
 returns-in_err-piece c =
     let p = err_from_is_err_and c.from_residual.result c.from_residual.ensures.1 in
     rw (p.1, p.2)
-    (inr (not_none (goal.at.returns-in_err-piece c).Else-eq
+    (inr (not_none (goal.at.returns-in_err-piece c).Else-says_none
     ∙ so_far_fault _ _ _ _ _ _ (so_far (goal.at.returns-in_err-piece c).In-len1-up) _ c.in_err-piece.ensures))
-
-pub depth_after-requires : goal.depth_after-requires
-depth_after-requires c = omega (arith, c.loop-rest.invariant.few, ltb-false)
 
 pub returns-in_err-depth : goal.returns-in_err-depth
 returns-in_err-depth c =
     let p = err_from_is_err_and c.from_residual-in_err-depth.result c.from_residual-in_err-depth.ensures.1 in
     rw (p.1, p.2)
-    (inr (not_none (goal.at.returns-in_err-depth c).Else-eq
+    (inr (not_none (goal.at.returns-in_err-depth c).Else-says_none
     ∙ so_far_deep _ _ _ _ _ _ (so_far (goal.at.returns-in_err-depth c).In-len1-up) _ _ c.in_ok-piece.ensures _ c.in_err-depth.ensures))
-
-pub returns-in_err-write : goal.returns-in_err-write
-returns-in_err-write c =
-    let p = err_from_is_err_and c.from_residual-in_err-write.result c.from_residual-in_err-write.ensures.1 in
-    rw (p.1, p.2) (inl c.in_err-write.ensures)
 
 pub loop-rest-smaller : goal.loop-rest-smaller
 loop-rest-smaller c =
@@ -71,9 +57,9 @@ loop-rest-preserved c =
 
 pub returns-then-depth-gt0 : goal.returns-then-depth-gt0
 returns-then-depth-gt0 c =
-    inr (not_none (goal.at.returns-then-depth-gt0 c).Else-eq ∙ so_far_open _ _ _ _ (ended (goal.at.returns-then-depth-gt0 c).In_default) c.if-depth-gt0.true)
+    inr (not_none (goal.at.returns-then-depth-gt0 c).Else-says_none ∙ so_far_open _ _ _ _ (ended (goal.at.returns-then-depth-gt0 c).In_default) c.if-depth-gt0.true)
 
 pub returns : goal.returns
 returns c =
     let all = so_far_all _ _ _ _ (ended (goal.at.returns c).In_default) (omega (arith, c.if-depth-gt0.false)) in
-    (all.0, not_none (goal.at.returns c).Else-eq ∙ all.1, all.2)
+    (all.0, not_none (goal.at.returns c).Else-says_none ∙ all.1, all.2)

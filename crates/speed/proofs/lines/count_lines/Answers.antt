@@ -1,29 +1,27 @@
-use Rattle.std.proofs.Common.{◌≡◌, ◌*◌, ◌∙◌, arith}
-use Rattle.std.proofs.lemmas.List.{get_or_default}
+use Rattle.std.proofs.Common.{◌≡◌, ◌*◌, ◌/◌, length, inl, ap, ◌∙◌, arith}
+use Rattle.std.proofs.lemmas.List.{get_or_default, length-take}
+use Rattle.std.proofs.lemmas.Iterator.Consumers.{YieldsList-from_first, count_from_yields_List}
 use Rattle.words.specs.Slots.{wide_by}
-use Rattle.speed.proofs.Counting.{bounds, lines_counted, cleared_again, used_fits, zeros_stay, no_lines, no_use, no_atoms_cleared}
+use Rattle.linebreak.specs.Lines.{lines_of}
+use Rattle.linebreak.proofs.Leading.{lines_few}
+use Rattle.speed.proofs.Counting.{lines_counted, cleared_again, zeros_again}
 use Rattle.speed.proofs.lines.count_lines.Goals as goal
 
-pub break_lines-requires : goal.break_lines-requires
-break_lines-requires c =
-    bounds c.args.tokens.now c.args.bulk c.in_ok-atoms.atoms c.args.work.now c.read_atoms.new.work c.in_ok-atoms.ensures c.requires.0 (omega arith) (wide_by c.args.widths.now) c.split_words-words.new.work c.split_words-words.result c.split_words-words.ensures.same c.split_words-words.ensures.words c.from.result c.args.width (omega (arith, c.from.ensures, c.fits-widths 0)) c.requires.1.1
+pub count-lines-requires-clause-fits : goal.count-lines-requires-clause-fits
+count-lines-requires-clause-fits c =
+    let broken = c.break_lines.new.slots in
+    inl (omega (arith, ap length c.of.ensures, lines_few (length broken / 8) broken 0, c.break_lines.ensures.same.as_long, length-take (8 * c.split_words-words.result) c.split_words-words.new.slots, c.split_words-words.ensures.same.few, length-take c.in_ok-read.read c.read_atoms.new.atoms))
 
-pub returns : goal.returns
-returns c =
+pub returns-clause-value : goal.returns-clause-value
+returns-clause-value c =
     let gap : c.from.result ≡ wide_by c.args.widths.now 32 = c.from.ensures ∙ get_or_default c.args.widths.now 0 0 1 (omega arith) in
-    let after = cleared_again c.args.tokens.now c.args.bulk c.in_ok-atoms.atoms c.args.work.now c.read_atoms.new.work c.in_ok-atoms.ensures c.requires.0 (omega arith) (wide_by c.args.widths.now) c.split_words-words.new.work c.split_words-words.result c.split_words-words.ensures.same c.split_words-words.ensures.words c.from.result c.args.width c.break_lines.new.slots gap c.break_lines.ensures.after c.break_lines.ensures.same c.clear.new.work c.clear.ensures in
-    record {
-      value = lines_counted c.args.tokens.now c.args.bulk c.in_ok-atoms.atoms c.args.work.now c.read_atoms.new.work c.in_ok-atoms.ensures c.requires.0 (omega arith) (wide_by c.args.widths.now) c.split_words-words.new.work c.split_words-words.result c.split_words-words.ensures.same c.split_words-words.ensures.words c.from.result c.args.width c.break_lines.new.slots gap c.break_lines.ensures.after c.break_lines.ensures.same c.follow_lines-lines.result c.follow_lines-lines.ensures;
-      after = after;
-      same = zeros_stay _ (9 * c.args.bulk) c.args.work.now c.clear.new.work (used_fits c.args.tokens.now c.args.bulk c.in_ok-atoms.atoms c.args.work.now c.read_atoms.new.work c.in_ok-atoms.ensures c.requires.0 (omega arith) (wide_by c.args.widths.now) c.split_words-words.new.work c.split_words-words.result c.split_words-words.ensures.same c.split_words-words.ensures.words) after;
-    }
+    let count = count_from_yields_List c.of.result c.count-lines.result c.count-lines.ensures.ran (YieldsList-from_first (λ x. x) (λ rest. rest) (lines_of c.break_lines.new.slots) c.of.ensures) in
+    lines_counted c.in_ok-read.ensures c.requires.0 c.requires.1.0 c.split_words-words.ensures.same c.split_words-words.ensures.words c.break_lines.ensures.same c.break_lines.ensures.after gap count
 
-pub returns-in_err-atoms : goal.returns-in_err-atoms
-returns-in_err-atoms c =
-    let read = c.in_err-atoms.ensures in
-    let after = no_atoms_cleared c.args.tokens.now c.args.bulk c.args.work.now c.read_atoms.new.work read in
-    record {
-      value = c.from_residual.ensures ∙ no_lines c.args.tokens.now c.args.bulk c.args.work.now c.read_atoms.new.work read (wide_by c.args.widths.now) c.args.width;
-      after = after;
-      same = zeros_stay _ (9 * c.args.bulk) c.args.work.now c.read_atoms.new.work (no_use c.args.tokens.now c.args.bulk c.args.work.now c.read_atoms.new.work read) after;
-    }
+pub returns-clause-slots : goal.returns-clause-slots
+returns-clause-slots c =
+    cleared_again c.in_ok-read.ensures c.requires.0 c.requires.1.0 c.split_words-words.ensures.same c.split_words-words.ensures.words c.break_lines.ensures.same (c.fill-2.ensures.after (λ y e. e))
+
+pub returns-clause-same : goal.returns-clause-same
+returns-clause-same c =
+    zeros_again c.in_ok-read.ensures c.requires.0 c.requires.1.0 c.split_words-words.ensures.same c.split_words-words.ensures.words c.break_lines.ensures.same (c.fill-2.ensures.after (λ y e. e))

@@ -1,26 +1,48 @@
-use Rattle.std.proofs.Common.{◌≤◌, length, ap, ◌∙◌, arith, rules}
-use Rattle.store.specs.Opened.{in_range, limits_of, looks_of, tokens_asked, rest_asked}
+use Rattle.std.proofs.Common.{◌≡◌, Ok, Option, Result, ◌≤◌, ◌++◌, length, drop, length-append, sym, ap, ◌∙◌, arith, rules}
+use Rattle.std.proofs.lemmas.List.{length-take-le}
+use Rattle.std.specs.Result.{result_ok}
 use Rattle.meaning.proofs.Picks.{some_picked}
-use Rattle.store.proofs.Fresh.{at_most_some, fresh_tokens, fresh_rest}
+use Rattle.wire.specs.declared.refusal.Refusal.{Refusal}
+use Rattle.store.specs.Opened.{in_range, limits_of, looks_of, tokens_asked, rest_asked, asking}
+use Rattle.store.specs.declared.opening.Asked.{Asked}
+use Rattle.store.specs.declared.opening.Limits.{Limits}
+use Rattle.store.specs.declared.opening.Looks.{Looks}
+use Rattle.store.proofs.Fresh.{length_header, fresh_tokens, fresh_rest}
 use Rattle.store.proofs.opening.open.Goals as goal
+
+-- what was let through is asked for
+asked_for :
+    (l : Limits) (g : Looks) (a : Asked) (o : Option Asked) (r : Result Asked Refusal) → o ≡ asking l g → o ≡ result_ok r → r ≡ Ok a →
+    a ≡ record { tokens = tokens_asked (limits_of l); rest = rest_asked (limits_of l) }
+asked_for l g a o r of ok was = (some_picked (in_range l g) a _ (sym (ok ∙ ap result_ok was) ∙ of)).1
+
+pub slice_bounds-copy_from_slice-end-2 : goal.slice_bounds-copy_from_slice-end-2
+slice_bounds-copy_from_slice-end-2 c =
+    let asked = asked_for c.args.limits.now c.args.looks.now c.in_ok-asked.asked c.of.result c.ok_or.result c.of.ensures c.ok_or.ensures.ok_part c.in_ok-asked.was in
+    let room : 64 ≤ length (c.fill-2.new.self ++ drop c.in_ok-asked.asked.rest c.args.rest.now) =
+    omega (arith, ap (λ a. a.rest) asked, length-append c.fill-2.new.self (drop c.in_ok-asked.asked.rest c.args.rest.now), length-take-le c.in_ok-asked.asked.rest c.args.rest.now (omega arith)) in
+    search rules
+
+pub copy_from_slice-requires : goal.copy_from_slice-requires
+copy_from_slice-requires c =
+    let asked = asked_for c.args.limits.now c.args.looks.now c.in_ok-asked.asked c.of.result c.ok_or.result c.of.ensures c.ok_or.ensures.ok_part c.in_ok-asked.was in
+    let room : 64 ≤ length (c.fill-2.new.self ++ drop c.in_ok-asked.asked.rest c.args.rest.now) =
+    omega (arith, ap (λ a. a.rest) asked, length-append c.fill-2.new.self (drop c.in_ok-asked.asked.rest c.args.rest.now), length-take-le c.in_ok-asked.asked.rest c.args.rest.now (omega arith)) in
+    length-take-le 64 _ room ∙ sym (ap length c.header_of.ensures ∙ length_header (limits_of c.args.limits.now) (looks_of c.args.looks.now))
 
 pub returns : goal.returns
 returns c =
     let l = c.args.limits.now in
     let g = c.args.looks.now in
-    let asked = (some_picked (in_range l g) c.in-Some.asked (record { tokens = tokens_asked (limits_of l); rest = rest_asked (limits_of l) }) c.in-Some.ensures).1 in
-    let bytes = at_most_some c.in-Some.asked.tokens (length c.args.tokens.now) c.in-Some-at_most.bytes c.in-Some-at_most.ensures in
-    let numbers = at_most_some c.in-Some.asked.rest (length c.args.rest.now) c.in-Some-at_most-2.numbers c.in-Some-at_most-2.ensures in
-    let fits : c.in-Some-at_most.bytes ≤ length c.args.tokens.now = omega arith in
-    let fits_too : c.in-Some-at_most-2.numbers ≤ length c.args.rest.now = omega arith in
+    let asked = asked_for c.args.limits.now c.args.looks.now c.in_ok-asked.asked c.of.result c.ok_or.result c.of.ensures c.ok_or.ensures.ok_part c.in_ok-asked.was in
     record {
       value = search rules;
       tokens =
-          fresh_tokens c.in-Some-at_most.bytes c.args.tokens.now c.fill.new.self fits (c.fill.ensures.after (λ y e. e)) (limits_of l) (looks_of g)
-          (bytes.1 ∙ ap (λ a. a.tokens) asked);
+          fresh_tokens c.in_ok-asked.asked.tokens c.args.tokens.now c.fill.new.self (omega arith) (c.fill.ensures.after (λ y e. e)) (limits_of l) (looks_of g)
+          (ap (λ a. a.tokens) asked);
       rest =
-          fresh_rest c.in-Some-at_most-2.numbers c.args.rest.now c.fill-2.new.self fits_too (c.fill-2.ensures.after (λ y e. e)) (limits_of l) (looks_of g)
+          fresh_rest c.in_ok-asked.asked.rest c.args.rest.now c.fill-2.new.self (omega arith) (c.fill-2.ensures.after (λ y e. e)) (limits_of l) (looks_of g)
           c.copy_from_slice.new.self
-          (c.copy_from_slice.ensures.after ∙ c.header_of-header.ensures)
-          (numbers.1 ∙ ap (λ a. a.rest) asked);
+          (c.copy_from_slice.ensures.after ∙ c.header_of.ensures)
+          (ap (λ a. a.rest) asked);
     }

@@ -1,4 +1,4 @@
-use Rattle.std.proofs.Common.{◌≡◌, length, vec_items}
+use Rattle.std.proofs.Common.{◌≡◌, vec_items}
 use Rattle.notation.specs.Steps.{in_front}
 use Rattle.text.specs.Calls.{hex_line}
 use Rattle.text.specs.Words.{words}
@@ -6,7 +6,4 @@ use Rattle.text.proofs.hex.read_bytes.Given as goal
 
 -- what was read, in front of what is left, is what there was
 abbrev pub invariant-loop-word : goal.invariant-loop-word
-invariant-loop-word l = in_front (vec_items l.bytes) (hex_line (words l.text)) ≡ hex_line (words l.initial.text)
-
-abbrev pub decreases-loop-word : goal.decreases-loop-word
-decreases-loop-word l = length (words l.text)
+invariant-loop-word l = in_front (vec_items l.bytes) (hex_line (words l.word-iterator.0.now)) ≡ hex_line (words l.text)

@@ -1,11 +1,10 @@
-use Rattle.std.proofs.Common.{codes, sym, ap, ◌∙◌}
-use Rattle.std.specs.Str.{bytes_eq}
+use Rattle.std.proofs.Common.{◌≡◌, codes, refl, rules, arith}
+use Rattle.std.proofs.lemmas.Slice.Eq.{text_from_reads}
 use Rattle.text.specs.Reading.{begins_book}
-use Rattle.notation.proofs.Sames.{same_as_told}
 use Rattle.text.proofs.reader.begins_book.Goals as goal
 
-pub returns : goal.returns
+pub returns-in-limits-default : goal.returns-in-limits-default
 unfolding begins_book
-returns c =
-    sym (same_as_told c.first_word.result.0.now (codes "limits") c.eq.result _ c.as_slice.ensures c.eq.ensures)
-    ∙ ap (λ w. bytes_eq w (codes "limits")) c.first_word.ensures.front
+returns-in-limits-default c =
+    let limits : c.first_word.result.0.now ≡ codes "limits" = text_from_reads _ _ (omega arith) (search rules) in
+    rw (← c.first_word.ensures.front, limits) refl

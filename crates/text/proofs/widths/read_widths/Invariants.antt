@@ -1,10 +1,6 @@
-use Rattle.std.proofs.Common.{length}
 use Rattle.text.specs.Words.{words}
 use Rattle.text.proofs.Tables.{SoFar}
 use Rattle.text.proofs.widths.read_widths.Given as goal
 
-abbrev pub invariant-loop-word : goal.invariant-loop-word
-invariant-loop-word l = SoFar l.table (words l.text) (words l.initial.text)
-
-abbrev pub decreases-loop-word : goal.decreases-loop-word
-decreases-loop-word l = length (words l.text)
+abbrev pub invariant-loop-name : goal.invariant-loop-name
+invariant-loop-name l = SoFar l.table (words l.words.0.now) (words l.text)

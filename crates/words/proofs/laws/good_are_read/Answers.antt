@@ -4,5 +4,5 @@ use Rattle.words.proofs.Good.{good_plainly, reads_good}
 use Rattle.words.proofs.laws.good_are_read.Goals as goal
 
 pub returns : goal.returns
-returns c can bytes depth ds pg most before after r few g s =
-    reads_good (atoms ds pg (tokens_of bytes)) bytes most before after r (good_plainly can few ds pg (tokens_of bytes) depth g) s
+returns c can bytes depth ds pg before after r few g s =
+    reads_good (atoms ds pg (tokens_of bytes)) bytes before after r (good_plainly can few ds pg (tokens_of bytes) depth g) s

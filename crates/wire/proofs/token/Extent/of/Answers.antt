@@ -1,58 +1,44 @@
-use Rattle.std.proofs.Common.{◌<◌, arith}
-use Rattle.wire.proofs.Levels.{led_at, plain_again, opens_again, ends_again, plain_short, opens_short, ends_here, nothing_here, all_read, left_open}
-use Rattle.wire.specs.declared.token.Lead.TheVariants.{Plain, Opens}
+use Rattle.std.proofs.Common.{sym, ap, ◌∙◌, arith}
+use Rattle.std.proofs.lemmas.List.{nil_from_length}
+use Rattle.wire.specs.Kinds.{token_byte}
+use Rattle.wire.proofs.Levels.{level, depth_behind, deeper, no_end, as_deep, some_width, passed, missing, ends_here, nothing_here, all_read, left_open}
 use Rattle.wire.proofs.token.Extent.of.Goals as goal
 
-pub returns-then-len-at : goal.returns-then-len-at
-returns-then-len-at c =
-    plain_short c.args.bytes.now c.loop-at.at c.loop-at.depth c.loop-at.invariant.2 c.loop-at-test.true c.in-Plain.n c.in-Plain.ensures c.if-len-at.true
+pub returns-in_default-try_from : goal.returns-in_default-try_from
+returns-in_default-try_from c = nothing_here _ _ _ c.loop-rest.invariant.1 (omega arith) c.in_default-try_from.ensures
 
-pub returns-then-len-at-2 : goal.returns-then-len-at-2
-returns-then-len-at-2 c =
-    opens_short c.args.bytes.now c.loop-at.at c.loop-at.depth c.loop-at.invariant.2 c.loop-at-test.true c.in-Opens.n c.in-Opens.ensures c.if-len-at-2.true
+pub returns-in_default-get : goal.returns-in_default-get
+returns-in_default-get c = missing _ _ _ c.loop-rest.invariant.1 (omega arith) c.in-Ok.kind c.in-Ok.ensures _ c.width.ensures c.in_default-get.ensures.lookup.0
 
-pub loop-at-smaller-in-Plain : goal.loop-at-smaller-in-Plain
-loop-at-smaller-in-Plain c =
-    let some : 0 < c.in-Plain.n = (led_at c.args.bytes.now c.loop-at.at (Plain c.in-Plain.n) c.loop-at-test.true c.in-Plain.ensures).some in
-    omega arith
+pub returns-in-End : goal.returns-in-End
+returns-in-End c = ends_here _ _ _ c.loop-rest.invariant.1 (omega arith) (sym c.in-Ok.ensures ∙ ap token_byte c.in-End.is) c.if-depth-eq0.true
 
-pub loop-at-smaller-in-Opens : goal.loop-at-smaller-in-Opens
-loop-at-smaller-in-Opens c =
-    let some : 0 < c.in-Opens.n = (led_at c.args.bytes.now c.loop-at.at (Opens c.in-Opens.n) c.loop-at-test.true c.in-Opens.ensures).some in
-    omega arith
-
-pub loop-at-preserved-in-Plain : goal.loop-at-preserved-in-Plain
-loop-at-preserved-in-Plain c = (
-  omega arith,
-  omega arith,
-  plain_again c.args.bytes.now c.loop-at.at c.loop-at.depth c.loop-at.invariant.2 c.loop-at-test.true c.in-Plain.n c.in-Plain.ensures c.if-len-at.false,
-)
-
-pub loop-at-preserved-in-Opens : goal.loop-at-preserved-in-Opens
-loop-at-preserved-in-Opens c =
-    let some : 0 < c.in-Opens.n = (led_at c.args.bytes.now c.loop-at.at (Opens c.in-Opens.n) c.loop-at-test.true c.in-Opens.ensures).some in (
-      omega arith,
-      omega arith,
-      opens_again c.args.bytes.now c.loop-at.at c.loop-at.depth c.loop-at.invariant.2 c.loop-at-test.true c.in-Opens.n c.in-Opens.ensures c.if-len-at-2.false,
+pub loop-rest-preserved-in-Note : goal.loop-rest-preserved-in-Note
+loop-rest-preserved-in-Note c =
+    let (fits, within, part, long) = c.in-Some.ensures.lookup.0 in (
+      omega (arith, some_width c.in-Ok.kind),
+      ap (λ n. level n c.in-Some.behind.now) (sym (deeper c.in-Ok.kind c.loop-rest.depth c.in-Note.is))
+          ∙ passed _ _ _ c.loop-rest.invariant.1 (omega arith) c.in-Ok.kind c.in-Ok.ensures _ _ c.width.ensures part fits (λ e. absurd (no_end c.in-Ok.kind c.in-Note.is e)),
     )
 
-pub returns-then-depth-eq0 : goal.returns-then-depth-eq0
-returns-then-depth-eq0 c =
-    ends_here c.args.bytes.now c.loop-at.at c.loop-at.depth c.loop-at.invariant.2 c.loop-at-test.true c.in-Ends.ensures c.if-depth-eq0.true
+pub loop-rest-preserved-in-End-2 : goal.loop-rest-preserved-in-End-2
+loop-rest-preserved-in-End-2 c =
+    let (fits, within, part, long) = c.in-Some.ensures.lookup.0 in (
+      omega arith,
+      ap (λ k. level (depth_behind k c.loop-rest.depth) c.in-Some.behind.now) (sym c.in-End-2.is)
+          ∙ passed _ _ _ c.loop-rest.invariant.1 (omega arith) c.in-Ok.kind c.in-Ok.ensures _ _ c.width.ensures part fits (λ _. omega (arith, c.if-depth-eq0.false)),
+    )
 
-pub loop-at-preserved : goal.loop-at-preserved
-loop-at-preserved c = (
-  omega arith,
-  omega arith,
-  ends_again c.args.bytes.now c.loop-at.at c.loop-at.depth c.loop-at.invariant.2 c.loop-at-test.true c.in-Ends.ensures (omega (arith, c.if-depth-eq0.false)),
-)
-
-pub returns-in-Nothing : goal.returns-in-Nothing
-returns-in-Nothing c =
-    nothing_here c.args.bytes.now c.loop-at.at c.loop-at.depth c.loop-at.invariant.2 c.loop-at-test.true c.in-Nothing.ensures
+pub loop-rest-preserved : goal.loop-rest-preserved
+loop-rest-preserved c =
+    let (fits, within, part, long) = c.in-Some.ensures.lookup.0 in (
+      omega arith,
+      ap (λ n. level n c.in-Some.behind.now) (sym (as_deep c.in-Ok.kind c.loop-rest.depth c.in_default-kind.not-Note c.in_default-kind.not-Command c.in_default-kind.not-End))
+          ∙ passed _ _ _ c.loop-rest.invariant.1 (omega arith) c.in-Ok.kind c.in-Ok.ensures _ _ c.width.ensures part fits (λ e. absurd (c.in_default-kind.not-End e)),
+    )
 
 pub returns-then-depth-eq0-2 : goal.returns-then-depth-eq0-2
-returns-then-depth-eq0-2 c = all_read c.args.bytes.now c.loop-at.at c.loop-at.depth c.loop-at.invariant.2 c.loop-at-test.false c.if-depth-eq0-2.true
+returns-then-depth-eq0-2 c = all_read _ c.loop-rest.rest.now _ c.loop-rest.invariant.1 (nil_from_length _ (omega arith)) c.if-depth-eq0-2.true
 
 pub returns-else-depth-eq0-2 : goal.returns-else-depth-eq0-2
-returns-else-depth-eq0-2 c = left_open c.args.bytes.now c.loop-at.at c.loop-at.depth c.loop-at.invariant.2 c.loop-at-test.false c.if-depth-eq0-2.false
+returns-else-depth-eq0-2 c = left_open _ c.loop-rest.rest.now _ c.loop-rest.invariant.1 (nil_from_length _ (omega arith)) c.if-depth-eq0-2.false

@@ -1,0 +1,47 @@
+-- A broken paragraph, line by line.
+--   broken_words   its words
+--   broken_lines   its lines
+--   line_words     the words of one of them
+--   line_widths    how wide the slots say that these are, added up
+--   is_last        whether it ends with the last word
+--   line_row       the row that it is
+--   line_bytes     the same in bytes
+--   Within         its places are places of words
+--   SlotsOf        the slots of its words
+use Rattle.std.specs.Prelude.{◌≡◌, ℕ, ◌+◌, ◌-◌, ◌/◌, ◌<◌, ◌≤◌, Bool, List, length, ◌==◌, slice_index_or}
+use Rattle.std.specs.declared.ops.Range.{Range}
+use Rattle.meaning.specs.Lines.{Word, Line, Placed, set_line}
+use Rattle.wire.specs.Bytes.{row_bytes}
+use Rattle.words.specs.Slots.{slot_word, word_in, wide_by}
+use Rattle.layout.specs.Rows.{words_from, words_of, widths_from}
+use Rattle.layout.specs.Sheets.{lines_by}
+use Rattle.layout.specs.declared.paragraph.BrokenParagraph.{BrokenParagraph}
+
+abbrev pub broken_words : BrokenParagraph → List Word
+broken_words p = words_of p.atoms.now p.slots.now
+
+abbrev pub broken_lines : BrokenParagraph → List Line
+broken_lines p = lines_by p.sheet.now (broken_words p)
+
+abbrev pub line_words : BrokenParagraph → Range ℕ → List Word
+line_words p line = words_from p.atoms.now p.slots.now line.start (line.end - line.start)
+
+abbrev pub line_widths : BrokenParagraph → Range ℕ → ℕ
+line_widths p line = widths_from p.slots.now line.start (line.end - line.start)
+
+abbrev pub is_last : BrokenParagraph → Range ℕ → Bool
+is_last p line = line.end == length p.slots.now / 8
+
+abbrev pub line_row : BrokenParagraph → Range ℕ → List Placed
+line_row p line = set_line (wide_by p.sheet.now.widths) p.sheet.now.width (line_words p line) (is_last p line)
+
+abbrev pub line_bytes : BrokenParagraph → Range ℕ → List ℕ
+line_bytes p line = row_bytes (line_row p line)
+
+abbrev pub Within : BrokenParagraph → Range ℕ → Type 0
+Within p line = (line.start ≤ line.end) × (line.end ≤ length p.slots.now / 8)
+
+-- what the slots of a line's words are, one by one
+pub record SlotsOf (p : BrokenParagraph) (line : Range ℕ) (slots : List (List ℕ)) : Type 0 where
+  pub as_many : length slots ≡ line.end - line.start
+  pub word : (k : ℕ) (d : List ℕ) → k < line.end - line.start → slot_word (slice_index_or slots k d) ≡ word_in p.slots.now (line.start + k)
