@@ -1,7 +1,7 @@
 // Reads a file of calls, or standard input, and answers each line before the next is read.
 #![tactic(auto)]
 
-use session::{Asked, Limits, Looks, ROOM, call, open};
+use session::{Asked, Opening, ROOM, call, open};
 use std::alloc::Global;
 use std::io::{BufRead, BufReader};
 use std::{env, fs, io};
@@ -41,17 +41,16 @@ impl Memory {
         })
     }
 
-    // What the limits ask for; nothing where they are out of range.
-    fn lend(&mut self, heap: Global, limits: &Limits, looks: &Looks) -> io::Result<()> {
-        let asked = Asked::of(limits, looks);
-        let (tokens, rest) = asked.map_or((0, 0), |asked| (asked.tokens, asked.rest));
-        self.tokens = vec![in heap; 0u8; tokens]?;
-        self.rest = vec![in heap; 0u64; rest]?;
+    // What the limits ask for; nothing where they or the looks are out of range.
+    fn lend(&mut self, heap: Global, opening: &Opening) -> io::Result<()> {
+        let asked = Asked::of(opening).unwrap_or_default();
+        self.tokens = vec![in heap; 0u8; asked.tokens]?;
+        self.rest = vec![in heap; 0u64; asked.rest]?;
         Ok(())
     }
 
-    fn open(&mut self, limits: &Limits, looks: &Looks) -> Result<(), Refusal> {
-        open(&mut self.tokens, &mut self.rest, limits, looks)
+    fn open(&mut self, opening: &Opening) -> Result<(), Refusal> {
+        open(&mut self.tokens, &mut self.rest, opening)
     }
 
     // The answer's bytes. There is always room for them.
@@ -78,10 +77,9 @@ fn answer_step(
     step: Step,
 ) -> io::Result<()> {
     match step {
-        Step::Nothing => Ok(()),
-        Step::Open(limits, looks) => {
-            memory.lend(rt.alloc(), &limits, &looks)?;
-            let outcome = memory.open(&limits, &looks);
+        Step::Open(opening) => {
+            memory.lend(rt.alloc(), &opening)?;
+            let outcome = memory.open(&opening);
             if outcome.is_err() {
                 reader.refused();
             }
@@ -105,7 +103,8 @@ fn answer_all<B: BufRead + Drop>(rt: &HostRuntime, mut input: B) -> io::Result<(
             break;
         }
         match reader.read(rt.alloc(), without_end(&line)) {
-            Ok(step) => answer_step(rt, &mut reader, &mut memory, step)?,
+            Ok(Some(step)) => answer_step(rt, &mut reader, &mut memory, step)?,
+            Ok(None) => {}
             Err(fault) => {
                 eprintln!(rt; "line {n}: {fault}")?;
                 return Err(io::Error::from(io::ErrorKind::InvalidData));

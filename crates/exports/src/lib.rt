@@ -1,4 +1,4 @@
-// The session for other languages: slices are lent, and one number comes back.
+// The session for other languages: slices are lent, one by one as C hands them over, and one number comes back.
 // A number below 0 is a refusal: -(its number * 2^32 + its place).
 #![tactic(auto)]
 
@@ -12,12 +12,10 @@ ghost use Rattle.store.specs.Opened.{tokens_asked, rest_asked};
 ghost use Rattle.exports.specs.Numbers.{refusing, asking_by, asked_number, opening_number, told_number, OpensAs, AnswersAs};
 
 pub use promise::exports_are_right;
-use session::{Asked, Limits, Looks, ROOM, call, open};
-use wire::{AnswerKind, Refusal};
+use session::{Asked, Limits, Looks, Opening, ROOM, call, open};
+use wire::{AnswerKind, LETTERS, Refusal};
 
-// How many widths of letters a book is opened with.
-const LETTERS: usize = 95;
-
+// By number and place, and no struct: an answer has just its bytes for them, and a `Refusal` has methods.
 fn below_zero(number: u8, place: u32) -> i64
     ensures { result ≡ refusing number place }
 {
@@ -32,15 +30,15 @@ fn refused_by(why: Refusal) -> i64
 }
 
 // None where a limit is out of range: the looks are in range.
-fn asked_by(limits: &Limits) -> Option<Asked>
-    ensures { result ≡ asking_by limits.now }
+fn asked_by(limits: Limits) -> Option<Asked>
+    ensures { result ≡ asking_by limits }
 {
     let looks = Looks {
         widths: [1; LETTERS],
         width: 1,
         rows: 1,
     };
-    Asked::of(limits, &looks)
+    Asked::of(&Opening { limits, looks })
 }
 
 // A part of the memory that limits ask for.
@@ -49,7 +47,7 @@ fn asked_part<F: Fn(Asked) -> usize>(limits: Limits, part: F) -> i64
     requires fits { MatchOption (asking_by limits) (Unit {0}) (λ asked. (n : ℕ) → F.post part asked n → n < 2 ^ 63) }
     ensures { MatchOption (asking_by limits) (result ≡ refusing 3 2) (λ asked. (n : ℕ) × F.post part asked n × (result ≡ pos n)) }
 {
-    match asked_by(&limits) {
+    match asked_by(limits) {
         Some(asked) => part(asked) as i64,
         None => refused_by(Refusal::BadOpening),
     }
@@ -128,10 +126,11 @@ pub extern "C" fn setter_open(
         width,
         rows,
     };
-    opening_number(open(tokens, rest, &limits, &looks))
+    opening_number(open(tokens, rest, &Opening { limits, looks }))
 }
 
 // The number of an answer: the session answers in bytes alone, so a refusal is read back from them.
+// `text` takes them apart to show them; one reader in `wire` for both would have a contract longer than either.
 fn told_number(answer: &[u8]) -> i64
     ensures { (a : Answer) → answer.now ≡ answer_bytes a → result ≡ told_number a }
 {

@@ -10,7 +10,8 @@ use Rattle.meaning.specs.Calls.{letters_of}
 use Rattle.meaning.proofs.Picks.{pick_both}
 use Rattle.words.specs.Atoms.{before_all, plain_atoms, within}
 use Rattle.wire.specs.Bytes.{tokens_of}
-use Rattle.layout.specs.Sheets.{atoms_or_none, paragraph_atoms, paragraph_words, paragraph_lines}
+use Rattle.words.specs.Lined.{atoms_or_none}
+use Rattle.layout.specs.Sheets.{paragraph_atoms, paragraph_words, paragraph_lines}
 use Rattle.layout.specs.Fills.{heights}
 use Rattle.layout.specs.Books.{sheet_at, bytes_at, book_lines, lines_in}
 use Rattle.layout.specs.declared.sheet.Sheet.{Sheet}

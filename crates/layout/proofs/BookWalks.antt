@@ -25,7 +25,7 @@ module _ (s : Sheet) (all : List (List ℕ)) (q : Wanted) where
   looks = looks_of s
 
   abbrev sought_over : List Line → Walk → Walk
-  sought_over ls w = sought s.rows (all_wanted q) (heights looks ls) w
+  sought_over ls w = sought s.looks.rows (all_wanted q) (heights looks ls) w
 
   -- before the paragraphs ps, which are the last ones
   pub record SoFar (ps : List (List ℕ)) (w : Walk) (from : Place) : Type 0 where
@@ -76,7 +76,7 @@ module _ (s : Sheet) (all : List (List ℕ)) (q : Wanted) where
     placed next (inr e) = subst (SoFar (paragraphs_left behind) w) (sym e) h
 
   module _ (p : List ℕ) (ps whole : List (List ℕ)) (w v : Walk) (from : Place) (all_of : whole ≡ p ∷ ps) (so_far : SoFar whole w from) (on : has_reached (all_wanted q) w ≡ false)
-      (walks : v ≡ sought s.rows (all_wanted q) (replicate (length (paragraph_lines s p)) 1) w) (grows : Grown 4096 w v)
+      (walks : v ≡ sought s.looks.rows (all_wanted q) (replicate (length (paragraph_lines s p)) 1) w) (grows : Grown 4096 w v)
     where
       before : SoFar (p ∷ ps) w from
       before = subst (λ (xs : List (List ℕ)). SoFar xs w from) all_of so_far
@@ -86,19 +86,19 @@ module _ (s : Sheet) (all : List (List ℕ)) (q : Wanted) where
 
       walks_here : v ≡ sought_over these w
       unfolding these
-      walks_here = walks ∙ ap (λ (hs : List ℕ). sought s.rows (all_wanted q) hs w) (sym (paragraph_heights looks s p))
+      walks_here = walks ∙ ap (λ (hs : List ℕ). sought s.looks.rows (all_wanted q) hs w) (sym (paragraph_heights looks s p))
 
       next_on : sought_over (lines_in s ps) v ≡ sought_over (lines_in s (p ∷ ps)) w
       unfolding these
       next_on =
           ap (sought_over (lines_in s ps)) walks_here
-          ∙ sym (ap (λ (hs : List ℕ). sought s.rows (all_wanted q) hs w) (heights_append looks these (lines_in s ps))
-          ∙ sought_append s.rows (all_wanted q) (heights looks these) (heights looks (lines_in s ps)) w)
+          ∙ sym (ap (λ (hs : List ℕ). sought s.looks.rows (all_wanted q) hs w) (heights_append looks these (lines_in s ps))
+          ∙ sought_append s.looks.rows (all_wanted q) (heights looks these) (heights looks (lines_in s ps)) w)
 
       seen_there : has_reached (all_wanted q) v ≡ false → drop (seen v) (lines_in s all) ≡ lines_in s ps
       seen_there e =
           let n : ℕ = length (paragraph_lines s p) in
-          let t = sought_seen s.rows (all_wanted q) (replicate n 1) w (ap (has_reached (all_wanted q)) (sym walks) ∙ e) in
+          let t = sought_seen s.looks.rows (all_wanted q) (replicate n 1) w (ap (has_reached (all_wanted q)) (sym walks) ∙ e) in
           let count : seen v ≡ seen w + n = ap seen walks ∙ (t ∙ ap (λ m. seen w + m) (length-replicate n 1)) in
           ap (λ m. drop m (lines_in s all)) count
           ∙ (sym (drop-drop n (seen w) (lines_in s all)) ∙ (ap (drop n) (before.all_seen on) ∙ drop_at (paragraph_lines s p) (lines_in s ps) n refl))
@@ -122,8 +122,8 @@ module _ (s : Sheet) (all : List (List ℕ)) (q : Wanted) where
             last = omega arith;
             goes_on = next_on ∙ before.goes_on;
             stands = before.stands;
-            near = near_after (subst (Turns w) (sym walks) (sought_turns s.rows (all_wanted q) (replicate n 1) w));
-            under = omega (arith, before.under, ap seen walks, sought_seen_le s.rows (all_wanted q) (replicate n 1) w);
+            near = near_after (subst (Turns w) (sym walks) (sought_turns s.looks.rows (all_wanted q) (replicate n 1) w));
+            under = omega (arith, before.under, ap seen walks, sought_seen_le s.looks.rows (all_wanted q) (replicate n 1) w);
             grown = record { pages = omega arith; seen = omega arith; rows = omega arith };
             all_seen = seen_there;
           }
@@ -134,7 +134,7 @@ module _ (s : Sheet) (all : List (List ℕ)) (q : Wanted) where
     found e = record { walk = e; from = h.stands; near = h.near; small = small ps w from h few }
 
     pub found_reached : has_reached (all_wanted q) w ≡ true → FoundBy s (lines_in s all) q (record { walk = w; from = from })
-    found_reached r = found (sym (sought_reached s.rows (all_wanted q) (heights looks (lines_in s ps)) w r) ∙ h.goes_on)
+    found_reached r = found (sym (sought_reached s.looks.rows (all_wanted q) (heights looks (lines_in s ps)) w r) ∙ h.goes_on)
 
     pub found_at_end : ps ≡ [] → FoundBy s (lines_in s all) q (record { walk = w; from = from })
     unfolding sought

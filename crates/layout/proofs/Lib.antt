@@ -10,9 +10,9 @@ pub mod Placing
 pub mod Lining
 pub mod SetLines
 pub mod Taking
-pub mod Alike
 pub mod OpenBooks
 pub mod BookLines
 pub mod Seen
 pub mod BookWalks
 pub mod Asking
+pub mod Cutting

@@ -79,7 +79,7 @@ module _ (s : Sheet) (atoms slots : List ℕ) (b : InLines s (words_of atoms slo
 
   -- the row of a line
   abbrev pub row_of : Range ℕ → List Placed
-  row_of line = set_line (wide_by s.widths) s.width (words_from atoms slots line.start (line.end - line.start)) (eqb line.end n)
+  row_of line = set_line (wide_by s.looks.widths) s.looks.width (words_from atoms slots line.start (line.end - line.start)) (eqb line.end n)
 
   -- the last line ends with the last word
   last_line : (k j : ℕ) → k + j ≤ n → eqb (length (drop k ws)) j ≡ eqb (k + j) n
@@ -88,17 +88,17 @@ module _ (s : Sheet) (atoms slots : List ℕ) (b : InLines s (words_of atoms slo
 
   rows_placed :
       (k : ℕ) (sizes : List ℕ) → All (λ (line : Range ℕ). (line.start ≤ line.end) × (line.end ≤ n)) (places k sizes) →
-      letters_of (set_lines (wide_by s.widths) s.width (drop k ws) sizes) ≡ map row_of (places k sizes)
+      letters_of (set_lines (wide_by s.looks.widths) s.looks.width (drop k ws) sizes) ≡ map row_of (places k sizes)
   unfolding places set_lines letters_of
   rows_placed k [] h = refl
   rows_placed k (size ∷ sizes) h =
       let here : size ≡ k + size - k = omega arith in
       ap₂ (λ (x : List Placed) (xs : List (List Placed)). x ∷ xs)
-      (ap₂ (λ (vs : List Word) (t : Bool). set_line (wide_by s.widths) s.width vs t) (words_there k size h.0.1 ∙ ap (words_from atoms slots k) here) (last_line k size h.0.1))
-      (ap (λ (vs : List Word). letters_of (set_lines (wide_by s.widths) s.width vs sizes)) (drop-drop size k ws) ∙ rows_placed (k + size) sizes h.1)
+      (ap₂ (λ (vs : List Word) (t : Bool). set_line (wide_by s.looks.widths) s.looks.width vs t) (words_there k size h.0.1 ∙ ap (words_from atoms slots k) here) (last_line k size h.0.1))
+      (ap (λ (vs : List Word). letters_of (set_lines (wide_by s.looks.widths) s.looks.width vs sizes)) (drop-drop size k ws) ∙ rows_placed (k + size) sizes h.1)
 
-  lines_are : lines_of slots ≡ places 0 (best (wide_by s.widths) s.width ws).ks
-  lines_are = (leads (wide_by s.widths) s.width ws slots (length ws) b.as_many b.follows).lines
+  lines_are : lines_of slots ≡ places 0 (best (wide_by s.looks.widths) s.looks.width ws).ks
+  lines_are = (leads (wide_by s.looks.widths) s.looks.width ws slots (length ws) b.as_many b.follows).lines
 
   pub all_within : All (λ (line : Range ℕ). (line.start ≤ line.end) × (line.end ≤ n)) (lines_of slots)
   all_within = lines_within n slots 0
@@ -106,7 +106,7 @@ module _ (s : Sheet) (atoms slots : List ℕ) (b : InLines s (words_of atoms slo
   -- the lines of the slots are those of the paragraph
   pub rows_are : letters_of (lines_by s ws) ≡ map row_of (lines_of slots)
   rows_are =
-      rows_placed 0 (best (wide_by s.widths) s.width ws).ks (subst (All (λ (line : Range ℕ). (line.start ≤ line.end) × (line.end ≤ n))) lines_are all_within)
+      rows_placed 0 (best (wide_by s.looks.widths) s.looks.width ws).ks (subst (All (λ (line : Range ℕ). (line.start ≤ line.end) × (line.end ≤ n))) lines_are all_within)
       ∙ ap (map row_of) (sym lines_are)
 
   pub as_many_lines : length (lines_by s ws) ≡ length (lines_of slots)

@@ -1,15 +1,11 @@
 -- An open book, and its parts: what stands in front, which is read, and the part for work.
-use Rattle.std.proofs.Common.{◌≡◌, ℕ, ◌+◌, ◌*◌, ◌<◌, ◌≤◌, true, ◌&&◌, leb, List, [], ◌++◌, length, get_or, replicate, take, drop, Some, None, Option, Ok, Result, sym, ap, ◌∙◌, subst, ap₂, arith}
+use Rattle.std.proofs.Common.{◌≡◌, ℕ, ◌+◌, ◌*◌, ◌<◌, ◌≤◌, true, ◌&&◌, leb, List, [], ◌++◌, length, get_or, replicate, take, drop, sym, ap, ◌∙◌, subst, ap₂, arith}
 use Rattle.std.proofs.lemmas.List.{length-take-le, length-drop, get_or-take}
 use Rattle.std.proofs.lemmas.Bool.{leb-true, and_parts}
-use Rattle.std.specs.Result.{result_ok}
-use Rattle.meaning.specs.Text.{pick}
-use Rattle.meaning.proofs.Picks.{some_picked}
-use Rattle.wire.specs.declared.refusal.Refusal.{Refusal}
 use Rattle.meaning.specs.Lines.{Line}
 use Rattle.meaning.specs.Pages.{fill}
 use Rattle.words.specs.Atoms.{cleared}
-use Rattle.store.specs.Kept.{kept_at, entries_at, widths_at, is_open}
+use Rattle.store.specs.Kept.{kept_at, entries_at, is_open}
 use Rattle.store.specs.Paragraphs.{paragraphs_in}
 use Rattle.store.specs.declared.kept.Kept.{Kept}
 use Rattle.store.proofs.Cutting.{length_of_book, bytes_of_book}
@@ -17,10 +13,13 @@ use Rattle.store.proofs.Looking.{open_parts, kept_same}
 use Rattle.store.proofs.Makes.{numbers_at}
 use Rattle.store.proofs.Tables.{entries_take}
 use Rattle.layout.specs.Sheets.{looks_of}
-use Rattle.layout.specs.Books.{sheet_at, bytes_at, pages_in, start_at, worked, paragraphs_at, pages_by, InFront}
+use Rattle.layout.specs.Books.{sheet_at, bytes_at, pages_in, start_at, worked, paragraphs_at, pages_by, LookedAt, InFront}
 use Rattle.layout.specs.declared.sheet.Sheet.{Sheet}
-use Rattle.layout.proofs.Alike.{widths_alike, sheet_alike}
 use Rattle.layout.proofs.BookLines.{lines_of_bytes}
+
+-- how a book looks of which this is kept
+abbrev pub sheet_of : Kept → Sheet
+sheet_of k = record { looks = k.looks; bulk = k.limits.bulk }
 
 pub record InRange (ts rs : List ℕ) : Type 0 where
   pub few : get_or rs 0 0 ≤ 4096
@@ -63,7 +62,7 @@ module _ (ts rs : List ℕ) (opened : is_open (length ts) rs ≡ true) where
     front_at i l = ap (λ xs. get_or xs i 0) cut ∙ get_or-take (start_at rs) rs i 0 (omega arith)
 
     pub sheet_in_front : sheet_at front ≡ sheet_at rs
-    sheet_in_front = sheet_alike front rs front_at
+    sheet_in_front = ap sheet_of (kept_same front rs front_at)
 
     pub long_front : length front ≡ start_at rs
     long_front = ap length cut ∙ length-take-le (start_at rs) rs (let r = range in omega (arith, r.room))
@@ -77,36 +76,17 @@ module _ (ts rs : List ℕ) (opened : is_open (length ts) rs ≡ true) where
     pub in_front : (k : Kept) → k ≡ kept_at rs → InFront ts front k
     in_front k e =
         let r = range in
-        let n = ap (λ (j : Kept). j.paragraphs) e in
+        let n = ap (λ (j : Kept). j.counts.paragraphs) e in
         record {
           kept = e ∙ sym kept_in_front;
           long = omega (arith, n, long_front, r.within);
           few = omega (arith, n, r.few, r.within);
           bulk = omega (arith, ap (λ (j : Kept). j.limits.bulk) e, r.bulk);
-          width = omega (arith, ap (λ (j : Kept). j.width) e, r.width);
+          width = omega (arith, ap (λ (j : Kept). j.looks.width) e, r.width);
           all = subst (λ (ps : List (List ℕ)). length ps ≤ 4096) (sym paragraphs_in_front) few_paragraphs;
         }
 
--- the looks, as the header tells them
-pub sheet_read :
-    (ts front : List ℕ) (k : Kept) (hs ws : List ℕ) → InFront ts front k → hs ≡ take 64 front → ws ≡ widths_at hs → ◌≡◌ {A = Sheet} (record { widths = ws; width = k.width; rows = k.rows; bulk = k.limits.bulk }) (sheet_at front)
-sheet_read ts front k hs ws h e f =
-    let widths : ws ≡ widths_at front = f ∙ (ap widths_at e ∙ widths_alike (take 64 front) front (λ i l. get_or-take 64 front i 0 l)) in
-    let same = h.kept in
-    λ i. record { widths = widths i; width = (same i).width; rows = (same i).rows; bulk = (same i).limits.bulk }
-
--- a book that was looked at
-pub record LookedAt (ts rs : List ℕ) (k : Kept) : Type 0 where
-  pub opened : is_open (length ts) rs ≡ true
-  pub kept : k ≡ kept_at rs
-
-pub looked_at :
-    {ts rs : List ℕ} {o : Option Kept} {r : Result Kept Refusal} {k : Kept} → o ≡ pick (is_open (length ts) rs) (Some (kept_at rs)) None → o ≡ result_ok r → r ≡ Ok k → LookedAt ts rs k
-looked_at {ts} {rs} {o} {r} {k} look ok was =
-    let p = some_picked (is_open (length ts) rs) k (kept_at rs) (sym (ok ∙ ap result_ok was) ∙ look) in
-    record { opened = p.0; kept = p.1 }
-
--- and cut in two
+-- a book that was looked at, cut in two
 module _ {ts rs : List ℕ} {k : Kept} (book : LookedAt ts rs k) {n : ℕ} (long : n ≡ 64 + 4 * k.limits.paragraphs) where
   starts : n ≡ start_at rs
   starts = long ∙ ap (λ (j : Kept). 64 + 4 * j.limits.paragraphs) book.kept

@@ -1,22 +1,18 @@
 -- Letters placed in a row, as bytes, written one by one and word by word.
-use Rattle.std.proofs.Common.{◌≡◌, ℕ, suc, ◌+◌, ◌-◌, ◌*◌, ◌<◌, ◌≤◌, ltb, List, [], ◌∷◌, ◌++◌, length, get_or, take, drop, sym, refl, ap, ◌∙◌, ap₂, arith}
+use Rattle.std.proofs.Common.{◌≡◌, ℕ, suc, ◌+◌, ◌-◌, ◌*◌, ◌<◌, ◌≤◌, ltb, List, [], ◌∷◌, ◌++◌, length, get_or, drop, sym, refl, ap, ◌∙◌, ap₂, arith}
 use borrow.Rule.Slice.PartMut.{put_mid}
 use Rattle.std.proofs.lemmas.List.{length-append, at_drop_more, at_drop_all}
 use Rattle.meaning.specs.Text.{pick}
 use Rattle.meaning.specs.Lines.{Word, Placed, long, place_letters, place_words}
 use Rattle.wire.specs.Bytes.{four, letters_bytes, over}
+use Rattle.wire.proofs.Answered.{length_letters_bytes}
 use Rattle.layout.specs.Rows.{letters_in}
-use Rattle.layout.proofs.Writing.{written, written_none, written_part, written_more, length_written}
+use Rattle.layout.proofs.Writing.{written, written_none, written_more, length_written}
 
 pub letters_bytes_append : (ps qs : List Placed) → letters_bytes (ps ++ qs) ≡ letters_bytes ps ++ letters_bytes qs
 unfolding letters_bytes
 letters_bytes_append [] qs = refl
 letters_bytes_append (p ∷ ps) qs = ap (λ (bs : List ℕ). p.what ∷ (four p.at ++ bs)) (letters_bytes_append ps qs)
-
-pub length_letters_bytes : (ps : List Placed) → length (letters_bytes ps) ≡ 5 * length ps
-unfolding letters_bytes
-length_letters_bytes [] = refl
-length_letters_bytes (p ∷ ps) = omega (arith, length_letters_bytes ps)
 
 pub length_place_letters : (wide : ℕ → ℕ) (x : ℕ) (cs : List ℕ) → length (place_letters wide x cs) ≡ length cs
 unfolding place_letters
@@ -60,11 +56,10 @@ pub record Lettered (wide : ℕ → ℕ) (cs : List ℕ) (x : ℕ) (before out :
 
 module _ {wide : ℕ → ℕ} {cs : List ℕ} {x : ℕ} {before out : List ℕ} {i place : ℕ} (h : Lettered wide cs x before out i place) where
   pub lettered_more :
-      (c w : ℕ) (part : List ℕ) → 5 * length cs ≤ length before → i < length cs → c ≡ get_or cs i 0 → w ≡ wide c → w ≤ 255 →
-      part ≡ over (c ∷ four place) (take (length out - 5 * i) (drop (5 * i) out)) →
-      Lettered wide cs x before (put_mid (5 * i) (length out - 5 * i) out part) (i + 1) (place + w)
-  lettered_more c w part fits l e f small g =
-      let now : put_mid (5 * i) (length out - 5 * i) out part ≡ written (5 * i) (c ∷ four place) out = written_part (5 * i) (c ∷ four place) out part g in
+      (c w n : ℕ) (part : List ℕ) → 5 * length cs ≤ length before → i < length cs → c ≡ get_or cs i 0 → w ≡ wide c → w ≤ 255 → n ≡ 5 →
+      part ≡ c ∷ four place → Lettered wide cs x before (put_mid (5 * i) n out part) (i + 1) (place + w)
+  lettered_more c w n part fits l e f small five g =
+      let now : put_mid (5 * i) n out part ≡ written (5 * i) (c ∷ four place) out = ap₂ (λ (k : ℕ) (bs : List ℕ). put_mid (5 * i) k out bs) five g in
       let room : 5 * i + length (c ∷ four place) ≤ length out = omega (arith, fits, h.as_long, l) in
       let left : List ℕ = word_bytes wide (place + w) (drop (i + 1) cs) in
       let bytes_left : word_bytes wide place (drop i cs) ≡ (c ∷ four place) ++ left =

@@ -13,7 +13,8 @@ use Rattle.layout.specs.Rows.{letters_in, shares, WordFits}
 use Rattle.layout.specs.Paragraphs.{line_words, line_widths, is_last, line_row, line_bytes, Within, SlotsOf}
 use Rattle.layout.specs.declared.line.Gaps.{Gaps}
 use Rattle.layout.specs.declared.paragraph.BrokenParagraph.{BrokenParagraph}
-use Rattle.layout.proofs.Placing.{words_bytes, length_letters_bytes, length_place_words}
+use Rattle.wire.proofs.Answered.{length_letters_bytes}
+use Rattle.layout.proofs.Placing.{words_bytes, length_place_words}
 use Rattle.layout.proofs.Lining.{EachFits, length_words_from, widths_le, natural_from}
 use Rattle.layout.proofs.LineSteps.{how_many, letters_there}
 
@@ -42,13 +43,13 @@ length_set_line wide w ws is_last =
 
 pub length_line_bytes : (p : BrokenParagraph) (line : Range ℕ) → length (line_bytes p line) ≡ 2 + 5 * letters_in (line_words p line)
 length_line_bytes p line =
-    omega (arith, length_letters_bytes (line_row p line), length_set_line (wide_by p.sheet.now.widths) p.sheet.now.width (line_words p line) (is_last p line))
+    omega (arith, length_letters_bytes (line_row p line), length_set_line (wide_by p.sheet.now.looks.widths) p.sheet.now.looks.width (line_words p line) (is_last p line))
 
 -- the word of one of a line's slots
 pub word_here :
     {p : BrokenParagraph} {line : Range ℕ} {slots : List (List ℕ)} {i : ℕ} {v : Slot.Word} →
     SlotsOf p line slots → Within p line → i < length slots → v ≡ slot_word (get_or slots i []) →
-    (line.start + i < line.end) × (v ≡ word_in p.slots.now (line.start + i)) × WordFits p.sheet.now.widths p.atoms.now v
+    (line.start + i < line.end) × (v ≡ word_in p.slots.now (line.start + i)) × WordFits p.sheet.now.looks.widths p.atoms.now v
 word_here {p} {line} {slots} {i} {v} s within l e =
     let value : v ≡ word_in p.slots.now (line.start + i) = e ∙ s.word i [] (omega (arith, s.as_many)) in
     let fits = p.lines.each (line.start + i) (omega (arith, s.as_many, within, how_many p.sheet.now p.atoms.now p.slots.now p.lines)) in
@@ -58,7 +59,7 @@ module _ (p : BrokenParagraph) (line : Range ℕ) (within : Within p line) where
   abbrev gaps : ℕ
   gaps = line.end - line.start - 1
 
-  each_fits : EachFits p.sheet.now.widths p.atoms.now p.slots.now line.start (line.end - line.start)
+  each_fits : EachFits p.sheet.now.looks.widths p.atoms.now p.slots.now line.start (line.end - line.start)
   each_fits k l m = p.lines.each k (omega (arith, how_many p.sheet.now p.atoms.now p.slots.now p.lines))
 
   -- the slots of its words, cut out of all
@@ -84,32 +85,32 @@ module _ (p : BrokenParagraph) (line : Range ℕ) (within : Within p line) where
   words_few = omega (arith, how_many p.sheet.now p.atoms.now p.slots.now p.lines, p.lines.few)
 
   pub widths_le_line : line_widths p line ≤ 255 * 4096
-  widths_le_line = omega (arith, widths_le p.sheet.now.widths p.atoms.now p.slots.now line.start (line.end - line.start) each_fits, letters_few)
+  widths_le_line = omega (arith, widths_le p.sheet.now.looks.widths p.atoms.now p.slots.now line.start (line.end - line.start) each_fits, letters_few)
 
-  natural_line : natural (wide_by p.sheet.now.widths) (line_words p line) ≡ line_widths p line + gaps * wide_by p.sheet.now.widths 32
-  natural_line = natural_from p.sheet.now.widths p.atoms.now p.slots.now line.start (line.end - line.start) each_fits
+  natural_line : natural (wide_by p.sheet.now.looks.widths) (line_words p line) ≡ line_widths p line + gaps * wide_by p.sheet.now.looks.widths 32
+  natural_line = natural_from p.sheet.now.looks.widths p.atoms.now p.slots.now line.start (line.end - line.start) each_fits
 
   -- what a line's words are, with gaps of what room there is
   pub line_set :
       (width room : ℕ) (g : Gaps) → width ≡ line_widths p line →
-      room ≡ pick (is_last p line) 0 (p.sheet.now.width - (width + gaps * wide_by p.sheet.now.widths 32)) → g ≡ shares room gaps →
-      line_row p line ≡ place_words (wide_by p.sheet.now.widths) 0 (line_words p line) g.each g.extra
+      room ≡ pick (is_last p line) 0 (p.sheet.now.looks.width - (width + gaps * wide_by p.sheet.now.looks.widths 32)) → g ≡ shares room gaps →
+      line_row p line ≡ place_words (wide_by p.sheet.now.looks.widths) 0 (line_words p line) g.each g.extra
   line_set width room g e f is =
-      let wide : ℕ → ℕ = wide_by p.sheet.now.widths in
+      let wide : ℕ → ℕ = wide_by p.sheet.now.looks.widths in
       let natural_is : width + gaps * wide 32 ≡ natural wide (line_words p line) = ap (λ (n : ℕ). n + gaps * wide 32) e ∙ sym natural_line in
-      let room_is : room ≡ pick (is_last p line) 0 (p.sheet.now.width - natural wide (line_words p line)) =
-      f ∙ ap (λ (n : ℕ). pick (is_last p line) 0 (p.sheet.now.width - n)) natural_is
+      let room_is : room ≡ pick (is_last p line) 0 (p.sheet.now.looks.width - natural wide (line_words p line)) =
+      f ∙ ap (λ (n : ℕ). pick (is_last p line) 0 (p.sheet.now.looks.width - n)) natural_is
       in
-      set_line_shares wide p.sheet.now.width (line_words p line) (is_last p line) g
+      set_line_shares wide p.sheet.now.looks.width (line_words p line) (is_last p line) g
       (is ∙ ap₂ (λ (m n : ℕ). shares m (n - 1)) room_is (sym (length_words_from p.atoms.now p.slots.now line.start (line.end - line.start))))
 
   -- its bytes: first how many letters there are
   pub line_bytes_set :
       (letters : ℕ) (g : Gaps) → letters ≡ letters_in (line_words p line) →
-      line_row p line ≡ place_words (wide_by p.sheet.now.widths) 0 (line_words p line) g.each g.extra →
-      line_bytes p line ≡ two letters ++ words_bytes (wide_by p.sheet.now.widths) 0 (line_words p line) g.each g.extra
+      line_row p line ≡ place_words (wide_by p.sheet.now.looks.widths) 0 (line_words p line) g.each g.extra →
+      line_bytes p line ≡ two letters ++ words_bytes (wide_by p.sheet.now.looks.widths) 0 (line_words p line) g.each g.extra
   line_bytes_set letters g e f =
-      let wide : ℕ → ℕ = wide_by p.sheet.now.widths in
+      let wide : ℕ → ℕ = wide_by p.sheet.now.looks.widths in
       let ws : List Word = line_words p line in
       ap row_bytes f
       ∙ ap (λ (n : ℕ). two n ++ words_bytes wide 0 ws g.each g.extra) (length_place_words wide 0 ws g.each g.extra ∙ sym e)

@@ -6,20 +6,21 @@
 --   worked         memory when the working part was used: what a paragraph can need of it is 0
 --   paragraphs_at  the paragraphs' bytes, one paragraph after another
 --   lines_in, pages_by   the lines of paragraphs, and the pages that they fill
+--   LookedAt       what is kept of an open book
 --   InFront        what is kept of an open book stands in these numbers
-use Rattle.std.specs.Prelude.{◌≡◌, ℕ, zero, suc, ◌+◌, ◌*◌, ◌≤◌, List, [], ◌++◌, length, take, drop, slice_index}
+use Rattle.std.specs.Prelude.{◌≡◌, ℕ, zero, suc, ◌+◌, ◌*◌, ◌≤◌, true, List, [], ◌++◌, length, take, drop, slice_index}
 use Rattle.std.specs.List.{flat_map}
 use Rattle.meaning.specs.Lines.{Line}
 use Rattle.meaning.specs.Pages.{Page, fill}
 use Rattle.words.specs.Atoms.{cleared}
-use Rattle.store.specs.Kept.{kept_at, entries_at, table_sum, widths_at}
+use Rattle.store.specs.Kept.{kept_at, entries_at, table_sum, looks_at, is_open}
 use Rattle.store.specs.Paragraphs.{paragraphs_in}
 use Rattle.store.specs.declared.kept.Kept.{Kept}
 use Rattle.layout.specs.Sheets.{looks_of, paragraph_lines}
 use Rattle.layout.specs.declared.sheet.Sheet.{Sheet}
 
 abbrev pub sheet_at : List ℕ → Sheet
-sheet_at rs = record { widths = widths_at rs; width = slice_index rs 10; rows = slice_index rs 11; bulk = slice_index rs 3 }
+sheet_at rs = record { looks = looks_at rs; bulk = slice_index rs 3 }
 
 abbrev pub bytes_at : List ℕ → List ℕ → ℕ → List ℕ
 bytes_at ts rs k = take (slice_index rs (64 + 4 * k)) (drop (table_sum 64 k rs) ts)
@@ -50,10 +51,14 @@ lines_in s ps = flat_map (paragraph_lines s) ps
 unfoldable pub pages_by : Sheet → List (List ℕ) → List Page
 pages_by s ps = fill (looks_of s) (lines_in s ps) [] []
 
+pub record LookedAt (ts rs : List ℕ) (k : Kept) : Type 0 where
+  pub opened : is_open (length ts) rs ≡ true
+  pub kept : k ≡ kept_at rs
+
 pub record InFront (ts front : List ℕ) (k : Kept) : Type 0 where
   pub kept : k ≡ kept_at front
-  pub long : 64 + 4 * k.paragraphs ≤ length front
-  pub few : k.paragraphs ≤ 4096
+  pub long : 64 + 4 * k.counts.paragraphs ≤ length front
+  pub few : k.counts.paragraphs ≤ 4096
   pub bulk : k.limits.bulk ≤ 4096
-  pub width : k.width ≤ 1000
+  pub width : k.looks.width ≤ 1000
   pub all : length (paragraphs_at ts front) ≤ 4096

@@ -25,7 +25,7 @@ pub record Stands (s : Sheet) (all : List Line) (p : Place) : Type 0 where
   pub lines : drop p.lines all ≡ lines_in s (paragraphs_left p.paragraphs)
 
 pub record FoundBy (s : Sheet) (all : List Line) (q : Wanted) (f : Found) : Type 0 where
-  pub walk : f.walk ≡ sought s.rows (all_wanted q) (heights (looks_of s) all) nothing_walked
+  pub walk : f.walk ≡ sought s.looks.rows (all_wanted q) (heights (looks_of s) all) nothing_walked
   pub from : Stands s all f.from
   -- no row that is wanted stands before that place
   pub near : f.walk.pages ≡ q.page + 1 → f.from.lines ≤ f.walk.before + q.row

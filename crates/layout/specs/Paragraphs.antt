@@ -33,7 +33,7 @@ abbrev pub is_last : BrokenParagraph → Range ℕ → Bool
 is_last p line = line.end == length p.slots.now / 8
 
 abbrev pub line_row : BrokenParagraph → Range ℕ → List Placed
-line_row p line = set_line (wide_by p.sheet.now.widths) p.sheet.now.width (line_words p line) (is_last p line)
+line_row p line = set_line (wide_by p.sheet.now.looks.widths) p.sheet.now.looks.width (line_words p line) (is_last p line)
 
 abbrev pub line_bytes : BrokenParagraph → Range ℕ → List ℕ
 line_bytes p line = row_bytes (line_row p line)

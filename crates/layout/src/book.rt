@@ -1,29 +1,31 @@
 // The book in memory, set from nothing: how many pages it has, and rows of a page.
-ghost use Rattle.std.specs.Prelude.{◌≡◌, ◌+◌, ◌*◌, ◌≤◌, length, is_ok, if◌then◌else◌};
+// `tokens` and `rest` are the two slices that are lent, and stay apart here as in `store`.
+ghost use Rattle.std.specs.Prelude.{◌≡◌, ◌+◌, ◌*◌, ◌≤◌, length, false, is_ok, if◌then◌else◌, MatchResult};
 ghost use Rattle.meaning.specs.Text.{pick};
 ghost use Rattle.meaning.specs.Calls.{letters_of};
 ghost use Rattle.wire.specs.Bytes.{over};
+ghost use Rattle.wire.specs.declared.refusal.Refusal.TheVariants.{BadOpening};
 ghost use Rattle.words.specs.Atoms.{cleared};
 ghost use Rattle.store.specs.Kept.{is_open};
 ghost use Rattle.store.specs.Paragraphs.{paragraphs_left};
 ghost use Rattle.layout.specs.Sheets.{SheetFits};
 ghost use Rattle.layout.specs.Finishes.{TakesAll};
-ghost use Rattle.layout.specs.Books.{sheet_at, paragraphs_at, lines_in, pages_by, worked, InFront};
+ghost use Rattle.layout.specs.Books.{sheet_at, paragraphs_at, lines_in, pages_by, worked, LookedAt, InFront};
 ghost use Rattle.layout.specs.Found.{first_wanted, all_wanted, FoundBy};
 ghost use Rattle.layout.specs.Asked.{counting_pages, shown_of, showing, shown_bytes, bytes_of_rows};
 
 use crate::rows::RowWriter;
 use crate::sheet::Sheet;
 use crate::walk::{Goal, Walk};
-use store::{Kept, Paragraphs, look, widths};
-use wire::{Refusal, write_rows};
+use store::{Kept, Paragraphs, look};
+use wire::{Refusal, rows_start};
 
-// Of a page, so many rows from one on.
-#[derive(Clone, Copy)]
-struct Wanted {
-    page: u32,
-    row: u16,
-    count: u8,
+// Of a page, from 0 on, so many rows from one on.
+#[derive(Clone, Copy, Debug, PartialEq, Eq)]
+pub struct Wanted {
+    pub page: u32,
+    pub row: u16,
+    pub count: u8,
 }
 
 impl Wanted {
@@ -61,6 +63,7 @@ struct Found<'t, 'e> {
 }
 
 // An open book: its looks, its paragraphs, and the working part, in which one paragraph after another is broken into lines.
+// What a method leaves as it was (Keeps), it says itself: a ghost field tells of the book at one time, and of no earlier one.
 #[derive(Drop)]
 pub(crate) struct Book<'t, 'e, 'w> {
     pub(crate) sheet: Sheet,
@@ -82,17 +85,13 @@ impl<'t, 'e, 'w> Book<'t, 'e, 'w> {
         ensures lent { result.work.ghost_name ≡ work.entry.ghost_name }
         ensures paragraphs { paragraphs_left result.paragraphs ≡ paragraphs_at tokens.now front.now }
     {
-        let (header, numbers) = front.split_first_chunk::<64>().unwrap();
-        let (entries, _) = numbers.as_chunks::<4>();
         let sheet = Sheet {
-            widths: widths(header),
-            width: kept.width,
-            rows: kept.rows,
+            looks: kept.looks,
             bulk: kept.limits.bulk as usize,
         };
         Book {
             sheet,
-            paragraphs: Paragraphs::new(tokens, &entries[..kept.paragraphs]),
+            paragraphs: Paragraphs::new(tokens, kept.entries(front)),
             work,
         }
     }
@@ -111,7 +110,7 @@ impl<'t, 'e, 'w> Book<'t, 'e, 'w> {
         ensures same { Keeps self.old self.new }
     {
         let goal = wanted.all();
-        let mut walk = Walk::new();
+        let mut walk = Walk::default();
         let mut behind = self.paragraphs;
         let mut from = Place {
             paragraphs: behind,
@@ -165,7 +164,7 @@ impl<'t, 'e, 'w> Book<'t, 'e, 'w> {
         if walk.pages - page > 1 || walk.lines < row + count {
             return Err(Refusal::NoRows(wanted.row as u32));
         }
-        write_rows(out, wanted.count);
+        out[..2].copy_from_slice(&rows_start(wanted.count));
         let mut rows = RowWriter {
             out,
             skip: walk.before + row - from.lines,
@@ -177,20 +176,23 @@ impl<'t, 'e, 'w> Book<'t, 'e, 'w> {
     }
 }
 
-// How many numbers stand in front of the working part.
-fn front_len(kept: &Kept) -> usize
-    ensures { result ≡ 64 + 4 * kept.now.limits.paragraphs }
+// What is kept of the book, where memory is an open one.
+fn looked_at(tokens: &[u8], rest: &[u64]) -> Result<Kept, Refusal>
+    ensures { MatchResult result (λ kept. LookedAt tokens.now rest.now kept) (λ why. (why ≡ BadOpening) × (is_open (length tokens.now) rest.now ≡ false)) }
 {
-    64 + 4 * kept.limits.paragraphs as usize
+    look(tokens, rest).ok_or(Refusal::BadOpening)
 }
 
 // How many pages there are.
+// This and `show_rows` split `rest` and clean the book, each for itself. Tried: around a closure that is asked between, a proof does not know what it left in the
+// `out` that it captured, and with `out` handed through, the contract is longer than both functions. And a function that made the book of `rest` could not
+// tell its caller which part of it the book holds.
 pub fn count_pages(tokens: &[u8], rest: &mut [u64]) -> Result<u32, Refusal>
     ensures value { result ≡ counting_pages tokens.now rest.old }
     ensures after { rest.new ≡ (if is_ok result then worked rest.old else rest.old) }
 {
-    let kept = look(tokens, rest).ok_or(Refusal::BadOpening)?;
-    let (front, work) = rest.split_at_mut(front_len(&kept));
+    let kept = looked_at(tokens, rest)?;
+    let (front, work) = rest.split_at_mut(kept.front());
     let mut book = Book::of(&kept, tokens, front, work);
     // No book has this page, so that the walk goes over all lines.
     let none = Wanted {
@@ -203,24 +205,22 @@ pub fn count_pages(tokens: &[u8], rest: &mut [u64]) -> Result<u32, Refusal>
     Ok(found.walk.pages as u32)
 }
 
-// Of a page, from 0 on, so many rows from one on, as the bytes of an answer; how many bytes. The page and the row that are not there are told.
+// The rows that are wanted, as the bytes of an answer; how many bytes. The page and the row that are not there are told.
 pub fn show_rows(
     tokens: &[u8],
     rest: &mut [u64],
-    page: u32,
-    row: u16,
-    count: u8,
+    wanted: Wanted,
     out: &mut [u8],
 ) -> Result<usize, Refusal>
-    requires { 2 + 20482 * count ≤ length out.old }
-    ensures value { result ≡ showing tokens.now rest.old page row count }
-    ensures written { out.new ≡ (if is_ok result then over (shown_bytes tokens.now rest.old page row count) out.old else out.old) }
+    requires { 2 + 20482 * wanted.count ≤ length out.old }
+    ensures value { result ≡ showing tokens.now rest.old wanted.page wanted.row wanted.count }
+    ensures written { out.new ≡ (if is_ok result then over (shown_bytes tokens.now rest.old wanted.page wanted.row wanted.count) out.old else out.old) }
     ensures after { rest.new ≡ pick (is_open (length tokens.now) rest.old) (worked rest.old) rest.old }
 {
-    let kept = look(tokens, rest).ok_or(Refusal::BadOpening)?;
-    let (front, work) = rest.split_at_mut(front_len(&kept));
+    let kept = looked_at(tokens, rest)?;
+    let (front, work) = rest.split_at_mut(kept.front());
     let mut book = Book::of(&kept, tokens, front, work);
-    let shown = book.show(Wanted { page, row, count }, out);
+    let shown = book.show(wanted, out);
     book.clean();
     shown
 }

@@ -8,5 +8,5 @@ mod rows;
 mod sheet;
 mod walk;
 
-pub use book::{count_pages, show_rows};
+pub use book::{Wanted, count_pages, show_rows};
 pub use walk::{Walk, walk_fills};

@@ -10,21 +10,18 @@ ghost use Rattle.layout.specs.Paragraphs.{line_words, line_widths, is_last, line
 use crate::paragraph::BrokenParagraph;
 use linebreak::SLOT;
 use std::ops::Range;
-use wire::{write_letter, write_row};
+use wire::{LETTER_BYTES, LETTERS, letter_bytes, row_start};
 use words::{Word, letter_width};
 
-// A letter with its place takes so many bytes.
-const LETTER: usize = 5;
-
 // Of a line's words, how many letters they have and how wide they are, added up.
-#[derive(Clone, Copy)]
+#[derive(Clone, Copy, Default)]
 struct Sums {
     letters: usize,
     width: usize,
 }
 
 // How much wider than a space gaps are: each by so much, and so many of them, the first ones, by one more.
-#[derive(Clone, Copy)]
+#[derive(Clone, Copy, Default)]
 struct Gaps {
     each: usize,
     extra: usize,
@@ -36,7 +33,7 @@ impl Gaps {
         ensures { result ≡ shares room gaps }
     {
         if gaps == 0 {
-            return Gaps { each: 0, extra: 0 };
+            return Gaps::default();
         }
         Gaps {
             each: room / gaps,
@@ -65,13 +62,14 @@ impl Gaps {
 
 // A word's letters next to each other, the first one at x.
 // The bytes are reached by place: of a loop over parts of them it is not known what it leaves there.
-fn write_word(out: &mut [u8], letters: &[u64], widths: &[u8; 95], x: usize)
+fn write_word(out: &mut [u8], letters: &[u64], widths: &[u8; LETTERS], x: usize)
     requires { ((i : ℕ) → i < length letters.now → slice_index letters.now i < 256) × ((5 * length letters.now ≤ length out.old) × (x + 255 * length letters.now < 2 ^ 32)) }
     ensures { out.new ≡ over (letters_bytes (place_letters (wide_by widths.now) x letters.now)) out.old }
 {
     let mut place = x;
     for (i, letter) in letters.iter().enumerate() {
-        write_letter(&mut out[LETTER * i..], *letter as u8, place as u32);
+        let at = LETTER_BYTES * i;
+        out[at..at + LETTER_BYTES].copy_from_slice(&letter_bytes(*letter as u8, place as u32));
         place += letter_width(widths, *letter);
     }
 }
@@ -96,20 +94,19 @@ impl<'a> Line<'a> {
         ensures letters { result.letters ≡ letters_in (line_words self.now.paragraph self.now.words) }
         ensures width { result.width ≡ line_widths self.now.paragraph self.now.words }
     {
-        let mut letters = 0;
-        let mut width = 0;
+        let mut sums = Sums::default();
         for slot in self.slots() {
             let word = Word::from(slot);
-            letters += word.atoms;
-            width += word.width;
+            sums.letters += word.atoms;
+            sums.width += word.width;
         }
-        Sums { letters, width }
+        sums
     }
 
     // The words, apart by a space and what the gaps are wider.
     fn write_words(&self, out: &mut [u8], gaps: Gaps)
         requires { (gaps.each ≤ 1000) × (5 * letters_in (line_words self.now.paragraph self.now.words) ≤ length out.old) }
-        ensures { out.new ≡ over (letters_bytes (place_words (wide_by self.now.paragraph.sheet.now.widths) 0 (line_words self.now.paragraph self.now.words) gaps.each gaps.extra)) out.old }
+        ensures { out.new ≡ over (letters_bytes (place_words (wide_by self.now.paragraph.sheet.now.looks.widths) 0 (line_words self.now.paragraph self.now.words) gaps.each gaps.extra)) out.old }
     {
         let BrokenParagraph { sheet, atoms, .. } = self.paragraph;
         let space = usize::from(sheet.space());
@@ -119,7 +116,12 @@ impl<'a> Line<'a> {
         for slot in self.slots() {
             let word = Word::from(slot);
             let word_letters = &atoms[word.first..word.first + word.atoms];
-            write_word(&mut out[LETTER * letters..], word_letters, &sheet.widths, x);
+            write_word(
+                &mut out[LETTER_BYTES * letters..],
+                word_letters,
+                &sheet.looks.widths,
+                x,
+            );
             letters += word.atoms;
             x += word.width + space + left.first();
             left = left.others();
@@ -129,7 +131,7 @@ impl<'a> Line<'a> {
     // What is left of the width: nothing is to be shared on a last line.
     fn room(&self, width: usize) -> usize
         requires { width ≤ 4096 * 1048576 }
-        ensures { result ≡ pick (is_last self.now.paragraph self.now.words) 0 (self.now.paragraph.sheet.now.width - (width + (self.now.words.end - self.now.words.start - 1) * wide_by self.now.paragraph.sheet.now.widths 32)) }
+        ensures { result ≡ pick (is_last self.now.paragraph self.now.words) 0 (self.now.paragraph.sheet.now.looks.width - (width + (self.now.words.end - self.now.words.start - 1) * wide_by self.now.paragraph.sheet.now.looks.widths 32)) }
     {
         let BrokenParagraph { sheet, slots, .. } = self.paragraph;
         if self.words.end == slots.len() / SLOT {
@@ -137,7 +139,7 @@ impl<'a> Line<'a> {
         }
         let space = usize::from(sheet.space());
         let natural = width + self.words.len().saturating_sub(1) * space;
-        sheet.width.saturating_sub(natural)
+        (sheet.looks.width as usize).saturating_sub(natural)
     }
 
     // The row that a line is; how many bytes it takes.
@@ -150,8 +152,8 @@ impl<'a> Line<'a> {
         let Sums { letters, width } = self.sums();
         let room = self.room(width);
         let gaps = Gaps::sharing(room, self.words.len().saturating_sub(1));
-        write_row(out, letters as u16);
+        out[..2].copy_from_slice(&row_start(letters as u16));
         self.write_words(&mut out[2..], gaps);
-        2 + LETTER * letters
+        2 + LETTER_BYTES * letters
     }
 }

@@ -10,8 +10,9 @@ use crate::book::Book;
 use crate::rows::RowWriter;
 use crate::sheet::Sheet;
 use crate::walk::{Goal, Walk};
-use linebreak::{Lines, SLOT, break_lines};
-use words::{read_atoms, split_words};
+use linebreak::{Lines, SLOT};
+use store::Looks;
+use words::break_into_lines;
 
 // A paragraph in its best lines: its atoms, just the slots of its words, and what its lines are set with.
 #[derive(Clone, Copy)]
@@ -42,14 +43,8 @@ impl Book<'_, '_, '_> {
         let sheet = self.sheet;
         let work = &mut *self.work;
         let (atoms, slots) = work.split_at_mut(sheet.bulk);
-        let read = read_atoms(tokens, atoms).unwrap_or(0);
-        let words = split_words(&atoms[..read], slots, &sheet.widths);
-        break_lines(
-            &mut slots[..SLOT * words],
-            u64::from(sheet.space()),
-            sheet.width as u64,
-        );
-        words
+        let Looks { widths, width, .. } = sheet.looks;
+        break_into_lines(tokens, atoms, slots, &widths, u64::from(width)).unwrap_or(0)
     }
 
     // The paragraph that was broken last, of so many words.
@@ -70,7 +65,7 @@ impl Book<'_, '_, '_> {
     // A walk over the lines of a paragraph, each of one row, until the goal is reached.
     pub(crate) fn walk_paragraph(&mut self, tokens: &[u8], goal: Goal, walk: Walk) -> Walk
         requires { Small walk }
-        ensures value { result ≡ sought self.old.sheet.rows goal (replicate (length (paragraph_lines self.old.sheet tokens.now)) 1) walk }
+        ensures value { result ≡ sought self.old.sheet.looks.rows goal (replicate (length (paragraph_lines self.old.sheet tokens.now)) 1) walk }
         ensures grown { Grown 4096 walk result }
         ensures same { Keeps self.old self.new }
     {

@@ -8,7 +8,7 @@ use crate::paragraph::BrokenParagraph;
 use crate::walk::{Goal, Walk};
 
 // The bytes of an answer, and where they end so far: so many rows are still to be passed over, and so many to be written.
-// There is room for these, of 4,096 letters each.
+// There is room for these, of 4,096 letters each. `out` is not cut shorter on the way: the field has to keep the reference that was lent.
 #[derive(Drop)]
 pub(crate) struct RowWriter<'a> {
     pub(crate) out: &'a mut [u8],
@@ -43,7 +43,7 @@ impl BrokenParagraph<'_> {
     // A walk over the lines, each of one row, until the goal is reached.
     pub(crate) fn walk(&self, goal: Goal, walk: Walk) -> Walk
         requires { Small walk }
-        ensures value { result ≡ sought self.now.sheet.now.rows goal (replicate (length (broken_lines self.now)) 1) walk }
+        ensures value { result ≡ sought self.now.sheet.now.looks.rows goal (replicate (length (broken_lines self.now)) 1) walk }
         ensures grown { Grown (length (broken_words self.now)) walk result }
     {
         let mut walk = walk;
@@ -51,7 +51,7 @@ impl BrokenParagraph<'_> {
             if walk.has_reached(goal) {
                 break;
             }
-            walk = walk.step(1, self.sheet.rows);
+            walk = walk.step(1, self.sheet.looks.rows as usize);
         }
         walk
     }

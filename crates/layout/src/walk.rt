@@ -1,11 +1,11 @@
 // Pages filled line by line.
 ghost use Rattle.std.specs.Prelude.{◌≡◌, ◌+◌, ◌^◌, ◌<◌};
 ghost use Rattle.layout.specs.Fills.{WalkFills};
-ghost use Rattle.layout.specs.Walks.{nothing_walked, stepped, has_reached};
+ghost use Rattle.layout.specs.Walks.{stepped, has_reached};
 
 // Where the walk is: how many pages are begun, how many lines are on those before the last of them, and of that one how many lines it has and
 // how many rows they take with their notes.
-#[derive(Clone, Copy)]
+#[derive(Clone, Copy, Debug, Default, PartialEq, Eq)]
 pub struct Walk {
     pub pages: usize,
     pub before: usize,
@@ -21,17 +21,6 @@ pub(crate) struct Goal {
 }
 
 impl Walk {
-    pub(crate) fn new() -> Walk
-        ensures { result ≡ nothing_walked }
-    {
-        Walk {
-            pages: 0,
-            before: 0,
-            lines: 0,
-            rows: 0,
-        }
-    }
-
     // One line more, which takes so many rows with its notes, where a page has so many. A first line always goes on the page.
     pub fn step(self, height: usize, rows: usize) -> Walk
         requires { (self.pages + 1 < 2 ^ 64) × ((self.before + self.lines + 1 < 2 ^ 64) × (self.rows + height < 2 ^ 64)) }

@@ -85,7 +85,7 @@ impl Way {
 }
 
 // The best way from each word on, from the last word back to the first.
-// The slots are lent as one row of numbers, so that each is reached by its place, and those behind it are read when it is written.
+// The slots are reached by their places: those behind a slot are read when it is written, and after `as_chunks_mut` a proof knows nothing of the row.
 pub fn break_lines(slots: &mut [u64], space: u64, width: u64)
     requires { Bounds slots.old (length slots.old / 8) space width }
     ensures after { Breaks slots.old slots.new (length slots.old / 8) space width }

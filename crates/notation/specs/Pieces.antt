@@ -2,11 +2,12 @@
 --   form_of       a piece as its bytes
 --   depth_after   how many braces are open behind a piece
 --   first_piece   the piece that a text begins with, and what stands behind it
---   Adds          what is added to a row where memory is found
-use Rattle.std.specs.Prelude.{◌≡◌, ℕ, zero, suc, cond, ◌||◌, List, [], ◌∷◌, ◌++◌, take, drop, Ok, Err, codes, Result, MatchResult, ◌==◌}
+--   piece_of      the same of a whole text; None at its end
+--   TakesPiece    the same where it is taken from the text
+use Rattle.std.specs.Prelude.{◌≡◌, ℕ, zero, suc, cond, ◌||◌, List, [], ◌∷◌, take, drop, Some, None, Ok, Err, codes, Option, Result, ◌==◌}
 use Rattle.std.specs.Str.{bytes_eq}
 use Rattle.notation.specs.declared.fault.Fault.{Fault}
-use Rattle.notation.specs.declared.fault.Fault.TheVariants.{NoToken, OpensNothing, ClosesNothing, NoMemory}
+use Rattle.notation.specs.declared.fault.Fault.TheVariants.{NoToken, OpensNothing, ClosesNothing}
 use Rattle.notation.specs.declared.piece.Piece.{Piece}
 use Rattle.notation.specs.declared.piece.Piece.TheVariants.{Letter, Space, Mark, PageOf, Note, Command, Given, Close}
 use Rattle.notation.specs.Numbers.{number_to}
@@ -60,5 +61,11 @@ first_piece b bs =
     (cond (b == 123) (Err OpensNothing)
     (cond (b == 125) (Ok (Close, bs)) (Ok (Letter b, bs)))))
 
-abbrev pub Adds : List ℕ → List ℕ → List ℕ → Result (Unit {0}) Fault → Type 0
-Adds bs before after r = MatchResult r (λ _. after ≡ before ++ bs) (λ e. e ≡ NoMemory)
+abbrev pub piece_of : List ℕ → Option (Result (Piece × List ℕ) Fault)
+piece_of [] = None
+piece_of (b ∷ bs) = Some (first_piece b bs)
+
+abbrev pub TakesPiece : List ℕ → Option (Result Piece Fault) → List ℕ → Type 0
+TakesPiece bs None rest = piece_of bs ≡ None
+TakesPiece bs (Some (Ok p)) rest = piece_of bs ≡ Some (Ok (p, rest))
+TakesPiece bs (Some (Err e)) rest = piece_of bs ≡ Some (Err e)

@@ -3,7 +3,7 @@ ghost use Rattle.std.specs.Prelude.{◌≡◌, Some};
 ghost use Rattle.notation.specs.declared.fault.Fault.TheVariants.{NoMemory};
 ghost use Rattle.notation.specs.Messages.{fault_text};
 
-use std::alloc::AllocFailed;
+use std::alloc::AllocError;
 use std::error::Error;
 use std::fmt;
 
@@ -47,10 +47,10 @@ impl fmt::Display for Fault {
 
 impl Error for Fault {}
 
-impl<T: Drop> From<AllocFailed<T>> for Fault {
+impl From<AllocError> for Fault {
     ghost from_gives = { λ _ r. r ≡ NoMemory };
 
-    fn from(_refused: AllocFailed<T>) -> Fault {
+    fn from(_error: AllocError) -> Fault {
         Fault::NoMemory
     }
 }

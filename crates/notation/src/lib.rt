@@ -10,4 +10,5 @@ mod reading;
 pub use fault::Fault;
 pub use laws::notes_tokens;
 pub use number::digits_value;
+pub use piece::Piece;
 pub use reading::read_tokens;

@@ -1,12 +1,14 @@
 // The pieces of a text: tokens, and the braces that open and close what a note or a command holds.
-ghost use Rattle.std.specs.Prelude.{◌≡◌, ◌+◌, ◌^◌, ◌<◌, ◌∷◌};
+ghost use Rattle.std.specs.Prelude.{◌≡◌, ◌+◌, ◌^◌, ◌<◌, ◌∷◌, ◌++◌, length, IfOk};
+ghost use Rattle.std.specs.Iterator.{at_most};
 ghost use Rattle.std.specs.Option.{option_to_list};
 ghost use Rattle.wire.specs.Kinds.{token_byte};
-ghost use Rattle.notation.specs.Pieces.{form_of, depth_after, worded, escaped, first_piece, Adds};
+ghost use Rattle.notation.specs.Pieces.{form_of, depth_after, worded, escaped, first_piece, TakesPiece};
 ghost use Rattle.notation.specs.Steps.{behind};
 
 use crate::fault::Fault;
 use crate::number::number_to;
+use std::alloc::AllocError;
 use wire::TokenKind;
 
 #[derive(Clone, Copy, Debug, PartialEq, Eq)]
@@ -40,8 +42,9 @@ impl Piece {
         }
     }
 
-    pub fn write(self, out: &mut Vec<u8>) -> Result<(), Fault>
-        ensures { Adds (form_of self) out.old.items out.new.items result }
+    // Its form, behind what is there.
+    pub fn write(self, out: &mut Vec<u8>) -> Result<(), AllocError>
+        ensures { IfOk result (λ _. out.new.items ≡ out.old.items ++ form_of self) }
     {
         let (kind, number) = self.form();
         out.push(kind.into())?;
@@ -52,7 +55,7 @@ impl Piece {
     }
 
     // How many braces are open behind it.
-    pub fn depth_after(self, depth: usize) -> Result<usize, Fault>
+    pub(crate) fn depth_after(self, depth: usize) -> Result<usize, Fault>
         requires { depth + 1 < 2 ^ 64 }
         ensures { result ≡ depth_after self depth }
     {
@@ -101,7 +104,7 @@ fn escaped(text: &[u8]) -> Result<(Piece, &[u8]), Fault>
 
 // The piece that a text begins with, by its first byte, and what stands behind it.
 #[tactic(auto, unfolding(crate::specs::Pieces::first_piece))]
-pub fn first_piece(first: u8, rest: &[u8]) -> Result<(Piece, &[u8]), Fault>
+fn first_piece(first: u8, rest: &[u8]) -> Result<(Piece, &[u8]), Fault>
     ensures { behind result ≡ first_piece first rest.now }
 {
     match first {
@@ -110,5 +113,32 @@ pub fn first_piece(first: u8, rest: &[u8]) -> Result<(Piece, &[u8]), Fault>
         b'{' => Err(Fault::OpensNothing),
         b'}' => Ok((Piece::Close, rest)),
         letter => Ok((Piece::Letter(letter), rest)),
+    }
+}
+
+// The pieces of a text, one behind another. A fault is the last.
+#[derive(Drop)]
+pub struct Pieces<'a>(pub &'a [u8]);
+
+impl Iterator for Pieces<'_> {
+    type Item = Result<Piece, Fault>;
+
+    ghost next_gives = { λ s r t. TakesPiece s.0.now r t.0.now };
+
+    ghost remaining = { λ s. at_most (length s.0.now) };
+
+    #[tactic(auto, using(crate::proofs::SoFar::first_shorter))]
+    fn next(&mut self) -> Option<Result<Piece, Fault>> {
+        let (first, rest) = self.0.split_first()?;
+        match first_piece(*first, rest) {
+            Ok((piece, rest)) => {
+                self.0 = rest;
+                Some(Ok(piece))
+            }
+            Err(fault) => {
+                self.0 = &[];
+                Some(Err(fault))
+            }
+        }
     }
 }

@@ -4,7 +4,7 @@ ghost use Rattle.std.specs.Str.{bytes_eq};
 ghost use Rattle.notation.specs.Noted.{ReadsOnto};
 
 use crate::fault::Fault;
-use crate::piece::first_piece;
+use crate::piece::Pieces;
 
 fn says_none(text: &[u8]) -> bool
     ensures { result ≡ bytes_eq text.now (92 ∷ codes "none") }
@@ -19,13 +19,11 @@ pub fn read_tokens(out: &mut Vec<u8>, text: &[u8]) -> Result<(), Fault>
     if says_none(text) {
         return Ok(());
     }
-    let mut rest = text;
     let mut depth = 0;
-    while let [first, behind @ ..] = rest {
-        let (piece, behind) = first_piece(*first, behind)?;
+    for piece in Pieces(text) {
+        let piece = piece?;
         depth = piece.depth_after(depth)?;
         piece.write(out)?;
-        rest = behind;
     }
     if depth > 0 {
         return Err(Fault::Unclosed);

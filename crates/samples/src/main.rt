@@ -1,12 +1,13 @@
 // Sets small texts from nothing, and prints their pages.
 #![tactic(auto)]
 
-use layout::{count_pages, show_rows};
+use layout::{Wanted, count_pages, show_rows};
+use notation::Piece;
 use std::alloc::{AllocError, Global};
 use std::{fmt, io};
-use store::{Asked, Content, Edit, Limits, Looks, change, open};
-use text::Outcome;
-use wire::{AnswerKind, Refusal, TokenKind};
+use store::{Asked, Content, Edit, Limits, Looks, Opening, change, open};
+use text::{Letters, Outcome};
+use wire::{LETTERS, Refusal};
 
 // Enough for each of the texts.
 const LIMITS: Limits = Limits {
@@ -93,9 +94,10 @@ const SAMPLES: [Sample; 8] = [
     },
 ];
 
-// A table of the letters from 32 on, the space. The program speed has the same: a library for this table alone would be no plainer.
-fn widths() -> [u8; 95] {
-    let mut widths = [6; 95];
+// A table of the letters from 32 on, the space. The program speed has the same five lines: a library for them would have more, and `text` would read them
+// from words, with a fault to be handled that can't be.
+fn widths() -> [u8; LETTERS] {
+    let mut widths = [6; LETTERS];
     widths[0] = 4;
     widths[(b'i' - 32) as usize] = 3;
     widths[(b'l' - 32) as usize] = 3;
@@ -103,11 +105,15 @@ fn widths() -> [u8; 95] {
 }
 
 impl Sample {
-    fn looks(&self) -> Looks {
-        Looks {
+    fn opening(&self) -> Opening {
+        let looks = Looks {
             widths: widths(),
             width: self.width,
             rows: self.rows,
+        };
+        Opening {
+            limits: LIMITS,
+            looks,
         }
     }
 }
@@ -130,43 +136,13 @@ impl fmt::Display for Sample {
 fn tokens_of(heap: Global, text: &str) -> Result<Vec<u8>, AllocError> {
     let mut tokens = Vec::new(heap);
     for letter in text.bytes() {
-        if letter == b' ' {
-            tokens.push(u8::from(TokenKind::Space))?;
-        } else {
-            tokens.push(u8::from(TokenKind::Letter))?;
-            tokens.push(letter)?;
-        }
+        let piece = match letter {
+            b' ' => Piece::Space,
+            letter => Piece::Letter(letter),
+        };
+        piece.write(&mut tokens)?;
     }
     Ok(tokens)
-}
-
-// The bytes of an answer that is one row. The text of an answer would have a line before it.
-#[derive(Clone, Copy)]
-struct Row<'a>(&'a [u8]);
-
-impl Row<'_> {
-    // Before them stand what kind of an answer it is, how many rows, and how many letters.
-    fn letters(&self) -> Option<&[u8]> {
-        let [kind, 1, _, _, letters @ ..] = self.0 else {
-            return None;
-        };
-        (AnswerKind::try_from(*kind) == Ok(AnswerKind::Rows)).then_some(letters)
-    }
-}
-
-impl fmt::Display for Row<'_> {
-    fn fmt<W: fmt::Write>(&self, f: &mut fmt::Formatter<W>) -> fmt::Result {
-        let Some(letters) = self.letters() else {
-            return f.write_str("no row");
-        };
-        for (k, [what, a, b, c, d]) in letters.as_chunks::<5>().0.iter().enumerate() {
-            let gap = if k > 0 { " " } else { "" };
-            let what = char::from(*what);
-            let at = u32::from_be_bytes([*a, *b, *c, *d]);
-            write!(f, "{gap}{what} {at}")?;
-        }
-        Ok(())
-    }
 }
 
 // A book in memory, and room for a row. The program answer has the like: a library would need contracts on vectors for these few lines.
@@ -179,20 +155,17 @@ struct Book {
 
 impl Book {
     // Not open yet. There is no memory for looks that are out of range.
-    fn new(heap: Global, looks: &Looks) -> Result<Book, AllocError> {
-        let (tokens, rest) = Asked::of(&LIMITS, looks).map_or(
-            (0, 0),
-            |asked| (asked.tokens, asked.rest),
-        );
+    fn new(heap: Global, opening: &Opening) -> Result<Book, AllocError> {
+        let asked = Asked::of(opening).unwrap_or_default();
         Ok(Book {
-            tokens: vec![in heap; 0u8; tokens]?,
-            rest: vec![in heap; 0u64; rest]?,
+            tokens: vec![in heap; 0u8; asked.tokens]?,
+            rest: vec![in heap; 0u64; asked.rest]?,
             out: [0; ROOM],
         })
     }
 
-    fn open(&mut self, looks: &Looks) -> Result<(), Refusal> {
-        open(&mut self.tokens, &mut self.rest, &LIMITS, looks)
+    fn open(&mut self, opening: &Opening) -> Result<(), Refusal> {
+        open(&mut self.tokens, &mut self.rest, opening)
     }
 
     fn put(&mut self, k: u16, content: Content<'_>) -> Result<(), Refusal> {
@@ -203,18 +176,23 @@ impl Book {
         count_pages(&self.tokens, &mut self.rest)
     }
 
-    fn row(&mut self, page: u32, row: u16) -> Result<Row<'_>, Refusal> {
-        let end = show_rows(&self.tokens, &mut self.rest, page, row, 1, &mut self.out)?;
-        let out = &self.out;
-        Ok(Row(&out[0..end.min(ROOM)]))
+    // Before a row's letters stand what kind of an answer it is, how many rows, and how many letters.
+    fn row(&mut self, page: u32, row: u16) -> Result<Letters<'_>, Refusal> {
+        let wanted = Wanted {
+            page,
+            row,
+            count: 1,
+        };
+        let end = show_rows(&self.tokens, &mut self.rest, wanted, &mut self.out)?;
+        Ok(Letters(self.out.get(4..end).unwrap_or_default()))
     }
 }
 
 // The book with the text in it.
 fn book_of(heap: Global, sample: &Sample) -> Result<Book, Failure> {
-    let looks = sample.looks();
-    let mut book = Book::new(heap, &looks)?;
-    book.open(&looks)?;
+    let opening = sample.opening();
+    let mut book = Book::new(heap, &opening)?;
+    book.open(&opening)?;
     for (k, text) in (0..u16::MAX).zip(sample.paragraphs) {
         let tokens = tokens_of(heap, text)?;
         let content = Content {
@@ -235,7 +213,7 @@ fn print_page(rt: &HostRuntime, book: &mut Book, page: u32) -> io::Result<()> {
     println!(rt; "page {page}")?;
     for row in 0..u16::MAX {
         match book.row(page, row) {
-            Ok(row) => rt.println(row)?,
+            Ok(letters) => rt.println(letters)?,
             Err(refusal) => return print_refusal(rt, refusal),
         }
     }

@@ -11,7 +11,7 @@ use Rattle.store.specs.Kept.{kept_at, table_sum, is_open}
 use Rattle.store.specs.Changes.{spliced, Edit, has_room, bytes_gone, paragraphs_after, size_after, bytes_after, entry_of, editing, edited_tokens, edited_rest}
 use Rattle.store.proofs.Looking.{OpenParts, open_parts, open_take}
 use Rattle.store.proofs.Makes.{NumbersOf, numbers_at, within_all}
-use Rattle.store.proofs.Splits.{take_further}
+use Rattle.std.proofs.Math.Seq.{take-add}
 use Rattle.store.proofs.Tables.{table_sum_take}
 use Rattle.session.specs.Answering.{limits_in, memory_in}
 
@@ -63,7 +63,7 @@ module _ (ts rs : List ℕ) (open_book : is_open (length ts) rs ≡ true) where
   numbers = numbers_at ts rs open_book
 
   whole : rest_of (memory_in ts rs) ≡ take (rest_asked (limits_in rs)) rs
-  whole = sym (take_further (kept_asked (limits_in rs)) (words_asked (limits_in rs)) rs)
+  whole = sym (take-add (kept_asked (limits_in rs)) (words_asked (limits_in rs)) rs)
 
   pub open_cut : is_open (length (memory_in ts rs).tokens) (rest_of (memory_in ts rs)) ≡ true
   open_cut =

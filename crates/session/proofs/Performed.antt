@@ -11,7 +11,7 @@ use Rattle.wire.specs.declared.refusal.Refusal.TheVariants.{Unfit, BadOpening}
 use Rattle.store.specs.Opened.{tokens_asked, kept_asked, words_asked, rest_asked, rest_of}
 use Rattle.store.specs.Kept.{is_open}
 use Rattle.store.specs.Changes.{Edit, has_room, editing, edited_tokens, edited_rest, Changes}
-use Rattle.store.proofs.Splits.{take_further}
+use Rattle.std.proofs.Math.Seq.{take-add}
 use Rattle.machine.specs.Setter.{wish, told_of, says_to, left_by_edit, says, next}
 use Rattle.session.specs.Answering.{limits_in, memory_in, unopened, Performs}
 use Rattle.session.proofs.Cuts.{decided, over_front, editing_cut, tokens_cut, rest_cut}
@@ -22,7 +22,7 @@ same_tokens ts rs = over_front (tokens_asked (limits_in rs)) ts
 
 same_rest : (ts rs : List ℕ) → over (rest_of (memory_in ts rs)) rs ≡ rs
 same_rest ts rs =
-    ap (λ xs. over xs rs) (sym (take_further (kept_asked (limits_in rs)) (words_asked (limits_in rs)) rs)) ∙ over_front (rest_asked (limits_in rs)) rs
+    ap (λ xs. over xs rs) (sym (take-add (kept_asked (limits_in rs)) (words_asked (limits_in rs)) rs)) ∙ over_front (rest_asked (limits_in rs)) rs
 
 -- a call that is no edit is refused by 2, whatever memory is
 pub refused_unfit : (ts rs : List ℕ) (c : Call) → ((xs : List ℕ) → wish xs c ≡ None) → Performs ts rs c ts rs (Err Unfit)

@@ -14,6 +14,7 @@ use Rattle.wire.specs.declared.refusal.Refusal.{Refusal}
 use Rattle.wire.specs.declared.refusal.Refusal.TheVariants.{Unfit}
 use Rattle.store.specs.Kept.{is_open}
 use Rattle.store.specs.Opened.{rest_of}
+use Rattle.store.specs.Changes
 use Rattle.store.specs.Changes.{put_edit, put_in_edit, Changes}
 use Rattle.store.specs.Edits.{edit_by}
 use Rattle.store.specs.declared.changes.Content.{Content}
@@ -24,50 +25,42 @@ use Rattle.session.specs.Answering.{memory_in, Wished, Performs}
 use Rattle.session.proofs.Cuts.{at_whole}
 use Rattle.session.proofs.Performed.{refused_unfit, performed}
 
--- calls with tokens
-put_wish : (k : ℕ) (ts : Tokens) (b : Bool) → good stage_tokens ts 16 ≡ b → (xs : List ℕ) → wish xs (Calls.put k ts) ≡ pick b (Some (put_edit k (all_written ts) (size ts) xs)) None
+-- a call with tokens asks for a change, if they are good
+pub record Asks (make : Tokens → Calls.Call) (change : Content → Edit) (by : List ℕ → ℕ → List ℕ → Changes.Edit) : Type 0 where
+  pub asked : (ts : Tokens) (b : Bool) → good stage_tokens ts 16 ≡ b → (xs : List ℕ) → wish xs (make ts) ≡ pick b (Some (by (all_written ts) (size ts) xs)) None
+  pub same : (new : Content) (xs : List ℕ) → edit_by (change new) xs ≡ by new.bytes.now new.size xs
+
+pub put_asks : (k : ℕ) → Asks (Calls.put k) (Edits.Put k) (put_edit k)
 unfolding stage_calls Calls.call_number Calls.good_fields
-put_wish k ts b e xs = ap (λ x. pick x (Some (put_edit k (all_written ts) (size ts) xs)) None) e
+put_asks k =
+    record {
+      asked = λ ts b e xs. ap (λ x. pick x (Some (put_edit k (all_written ts) (size ts) xs)) None) e;
+      same = λ new xs. refl;
+    }
 
-put_in_wish : (k : ℕ) (ts : Tokens) (b : Bool) → good stage_tokens ts 16 ≡ b → (xs : List ℕ) → wish xs (Calls.put_in k ts) ≡ pick b (Some (put_in_edit k (all_written ts) (size ts))) None
+pub put_in_asks : (k : ℕ) → Asks (Calls.put_in k) (Edits.PutIn k) (λ bs n xs. put_in_edit k bs n)
 unfolding stage_calls Calls.call_number Calls.good_fields
-put_in_wish k ts b e xs = ap (λ x. pick x (Some (put_in_edit k (all_written ts) (size ts))) None) e
+put_in_asks k =
+    record {
+      asked = λ ts b e xs. ap (λ x. pick x (Some (put_in_edit k (all_written ts) (size ts))) None) e;
+      same = λ new xs. refl;
+    }
 
-module _ (k : ℕ) (part : Bor (List ℕ)) where
-  module _ (new : Content) (whole : Whole part) (held : (new.bytes.now ≡ part.now) × Measures part.now 16 (Some new.size)) where
-    fits : (good stage_tokens (tokens_of part.now) 16 ≡ true) × (new.size ≡ size (tokens_of part.now))
-    fits = some_picked (good stage_tokens (tokens_of part.now) 16) new.size (size (tokens_of part.now)) held.1.value
+module _ {make : Tokens → Calls.Call} {change : Content → Edit} {by : List ℕ → ℕ → List ℕ → Changes.Edit} (asks : Asks make change by) (part : Bor (List ℕ)) where
+  pub good_wished : (new : Content) → Whole part → (new.bytes.now ≡ part.now) × Measures part.now 16 (Some new.size) → Wished (make (tokens_of part.now)) (Ok (change new))
+  good_wished new whole held =
+      let fits = some_picked (good stage_tokens (tokens_of part.now) 16) new.size (size (tokens_of part.now)) held.1.value in
+      let same_bytes : all_written (tokens_of part.now) ≡ new.bytes.now = sym (held.0 ∙ whole) in
+      record {
+        value = λ xs. asks.asked (tokens_of part.now) true fits.0 xs ∙ ap Some (ap₂ (λ bs n. by bs n xs) same_bytes (sym fits.1) ∙ sym (asks.same new xs));
+        refusal = tt;
+      }
 
-    same_bytes : all_written (tokens_of part.now) ≡ new.bytes.now
-    same_bytes = sym (held.0 ∙ whole)
-
-    pub put_wished : Wished (Calls.put k (tokens_of part.now)) (Ok (Edits.Put k new))
-    put_wished =
-        record {
-          value = λ xs. put_wish k (tokens_of part.now) true fits.0 xs ∙ ap₂ (λ bs n. Some (put_edit k bs n xs)) same_bytes (sym fits.1);
-          refusal = tt;
-        }
-
-    pub put_in_wished : Wished (Calls.put_in k (tokens_of part.now)) (Ok (Edits.PutIn k new))
-    put_in_wished =
-        record {
-          value = λ xs. put_in_wish k (tokens_of part.now) true fits.0 xs ∙ ap₂ (λ bs n. Some (put_in_edit k bs n)) same_bytes (sym fits.1);
-          refusal = tt;
-        }
-
-  module _ (why : Refusal) (r : Result Edit Refusal) (unfit : (why ≡ Unfit) × Measures part.now 16 None) (so : IsErrAnd r (λ e. e ≡ why)) where
-    not_good : good stage_tokens (tokens_of part.now) 16 ≡ false
-    not_good = none_picked (good stage_tokens (tokens_of part.now) 16) (size (tokens_of part.now)) unfit.1.value
-
-    pub put_unfit : Wished (Calls.put k (tokens_of part.now)) r
-    put_unfit =
-        let p = err_from_is_err_and r so in
-        rw (p.1, p.2) (record { value = put_wish k (tokens_of part.now) false not_good; refusal = unfit.0 })
-
-    pub put_in_unfit : Wished (Calls.put_in k (tokens_of part.now)) r
-    put_in_unfit =
-        let p = err_from_is_err_and r so in
-        rw (p.1, p.2) (record { value = put_in_wish k (tokens_of part.now) false not_good; refusal = unfit.0 })
+  pub unfit_wished : (why : Refusal) (r : Result Edit Refusal) → (why ≡ Unfit) × Measures part.now 16 None → IsErrAnd r (λ e. e ≡ why) → Wished (make (tokens_of part.now)) r
+  unfit_wished why r held so =
+      let p = err_from_is_err_and r so in
+      let not_good = none_picked (good stage_tokens (tokens_of part.now) 16) (size (tokens_of part.now)) held.1.value in
+      rw (p.1, p.2) (record { value = asks.asked (tokens_of part.now) false not_good; refusal = held.0 })
 
 pub cut_wished : (k : ℕ) → Wished (Calls.cut k) (Ok (Edits.Cut k))
 unfolding stage_calls Calls.call_number Calls.good_fields

@@ -7,4 +7,4 @@ mod promise;
 
 pub use answering::{ROOM, call};
 pub use promise::session_is_right;
-pub use store::{Asked, Limits, Looks, open};
+pub use store::{Asked, Limits, Looks, Opening, open};

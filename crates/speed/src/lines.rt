@@ -4,15 +4,16 @@ ghost use Rattle.words.specs.Atoms.{plain_within, cleared};
 ghost use Rattle.words.specs.Slots.{wide_by};
 ghost use Rattle.speed.specs.Counts.{lines_in, used};
 
-use linebreak::{Lines, SLOT, break_lines};
-use words::{read_atoms, split_words};
+use linebreak::{Lines, SLOT};
+use wire::LETTERS;
+use words::break_into_lines;
 
 // None where there is no room for all atoms, or a token is no letter and no space. What was used of both rows is 0 again.
 pub fn count_lines(
     tokens: &[u8],
     atoms: &mut [u64],
     slots: &mut [u64],
-    widths: &[u8; 95],
+    widths: &[u8; LETTERS],
     width: u64,
 ) -> Option<usize>
     requires { (length atoms.old ≤ 4096) × ((8 * length atoms.old ≤ length slots.old) × (width ≤ 1000)) }
@@ -21,11 +22,9 @@ pub fn count_lines(
     ensures slots { slots.new ≡ cleared (used (plain_within (length atoms.old) tokens.now)) slots.old }
     ensures same { take (8 * length atoms.old) slots.old ≡ replicate (8 * length atoms.old) 0 → slots.new ≡ slots.old }
 {
-    let read = read_atoms(tokens, atoms)?;
-    let words = split_words(&atoms[..read], slots, widths);
+    let words = break_into_lines(tokens, atoms, slots, widths, width)?;
     atoms.fill(0);
     let used = &mut slots[..SLOT * words];
-    break_lines(used, u64::from(widths[0]), width);
     let lines = Lines::of(used).count();
     used.fill(0);
     Some(lines)

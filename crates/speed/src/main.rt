@@ -5,10 +5,11 @@ ghost use Rattle.std.specs.Prelude.{◌≤◌};
 
 use linebreak::SLOT;
 use lines::count_lines;
+use notation::Piece;
 use std::alloc::{AllocError, Global};
 use std::time::Instant;
 use std::{env, io};
-use wire::TokenKind;
+use wire::LETTERS;
 
 mod lines;
 
@@ -70,15 +71,9 @@ impl Paragraph {
         }
     }
 
-    fn push_letter(&mut self, letter: u8) -> Result<(), AllocError> {
-        self.tokens.push(u8::from(TokenKind::Letter))?;
-        self.tokens.push(letter)?;
-        self.size = self.size.saturating_add(1);
-        Ok(())
-    }
-
-    fn push_space(&mut self) -> Result<(), AllocError> {
-        self.tokens.push(u8::from(TokenKind::Space))?;
+    // A letter or a space.
+    fn push(&mut self, piece: Piece) -> Result<(), AllocError> {
+        piece.write(&mut self.tokens)?;
         self.size = self.size.saturating_add(1);
         Ok(())
     }
@@ -89,10 +84,10 @@ impl Paragraph {
         let mut left = dice.word_length();
         for k in 0..size {
             if left == 0 && k + 1 < size {
-                paragraph.push_space()?;
+                paragraph.push(Piece::Space)?;
                 left = dice.word_length();
             } else {
-                paragraph.push_letter(dice.letter())?;
+                paragraph.push(Piece::Letter(dice.letter()))?;
                 left = left.saturating_sub(1);
             }
         }
@@ -103,11 +98,11 @@ impl Paragraph {
     fn too_wide(heap: Global, words: usize, letters: usize) -> Result<Paragraph, AllocError> {
         let mut paragraph = Paragraph::new(heap);
         for _ in 1..words {
-            paragraph.push_letter(b'a')?;
-            paragraph.push_space()?;
+            paragraph.push(Piece::Letter(b'a'))?;
+            paragraph.push(Piece::Space)?;
         }
         for _ in 0..letters {
-            paragraph.push_letter(b'a')?;
+            paragraph.push(Piece::Letter(b'a'))?;
         }
         Ok(paragraph)
     }
@@ -116,7 +111,7 @@ impl Paragraph {
 // What lines are counted with: the widths of the letters, and room for atoms and for words.
 #[derive(Drop)]
 struct Desk {
-    widths: [u8; 95],
+    widths: [u8; LETTERS],
     atoms: [u64; BULK],
     slots: [u64; NUMBERS],
 }
@@ -195,9 +190,10 @@ impl Set {
     }
 }
 
-// A table of the letters from 32 on, the space. The program samples has the same: a library for this table alone would be no plainer.
-fn widths() -> [u8; 95] {
-    let mut widths = [6; 95];
+// A table of the letters from 32 on, the space. The program samples has the same five lines: a library for them would have more, and `text` would read them
+// from words, with a fault to be handled that can't be.
+fn widths() -> [u8; LETTERS] {
+    let mut widths = [6; LETTERS];
     widths[0] = 4;
     widths[(b'i' - 32) as usize] = 3;
     widths[(b'l' - 32) as usize] = 3;

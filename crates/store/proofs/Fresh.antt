@@ -1,6 +1,7 @@
 -- What a book that was just opened holds: its header and the zeros behind it.
 use Rattle.std.proofs.Common.{◌≡◌, ℕ, ◌+◌, ◌-◌, ◌*◌, ◌<◌, ◌≤◌, true, List, [], ◌∷◌, ◌++◌, map, length, take, drop, replicate, sym, refl, ap, ◌∙◌, ap₂, arith, lit<}
 use Rattle.std.specs.List.{range_with_len}
+use borrow.Rule.Slice.PartMut.{put_mid}
 use Rattle.std.proofs.lemmas.List.{append_assoc, length-append, length-replicate, length-take-le, drop-append-le, drop-replicate, replicate-append-replicate}
 use Rattle.std.proofs.lemmas.Bool.{lt-ltb}
 use Rattle.meaning.specs.Calls
@@ -12,11 +13,15 @@ use Rattle.store.specs.declared.opening.Limits.{Limits}
 use Rattle.store.specs.declared.opening.Looks.{Looks}
 use Rattle.store.specs.Opened.{looks_of, packed, packed_widths, header, header_of, tokens_asked, kept_asked, words_asked, rest_asked, opened, rest_of, OpenedSound}
 
-pub header_with : (l : Limits) (g : Looks) (ws : List ℕ) → ws ≡ packed_widths (looks_of g).wide →
-    (l.paragraphs ∷ (l.tokens ∷ (l.definitions ∷ (l.bulk ∷ (0 ∷ (0 ∷ (0 ∷ (0 ∷ (0 ∷ (0 ∷ (g.width ∷ (g.rows ∷ [])))))))))))) ++ (ws ++ replicate 40 0) ≡ header_of l g
+-- the header, as it is written part by part over zeros
+abbrev header_from : List ℕ → List ℕ → List ℕ → List ℕ
+header_from ls page widths = put_mid 12 12 (put_mid 10 2 (ls ++ replicate 60 0) page) widths
+
+pub header_with :
+    (l : Limits) (g : Looks) {ls page widths : List ℕ} → ls ≡ l.paragraphs ∷ (l.tokens ∷ (l.definitions ∷ (l.bulk ∷ []))) → page ≡ g.width ∷ (g.rows ∷ []) → widths ≡ packed_widths (looks_of g).wide →
+    header_from ls page widths ≡ header_of l g
 unfolding header
-header_with l g ws e =
-    ap (λ vs. (l.paragraphs ∷ (l.tokens ∷ (l.definitions ∷ (l.bulk ∷ (0 ∷ (0 ∷ (0 ∷ (0 ∷ (0 ∷ (0 ∷ (g.width ∷ (g.rows ∷ [])))))))))))) ++ (vs ++ replicate 40 0)) e
+header_with l g a b c = λ i. header_from (a i) (b i) (c i)
 
 pub length_header : (l : Calls.Limits) (g : Pages.Looks) → length (header l g) ≡ 64
 unfolding header

@@ -2,8 +2,7 @@ pub mod Within
 pub mod Fresh
 pub mod Tables
 pub mod Looking
-pub mod OpenedBook
-pub mod Splits
+pub mod Headers
 pub mod Makes
 pub mod Packing
 pub mod Cutting

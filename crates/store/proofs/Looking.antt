@@ -1,16 +1,17 @@
 -- Memory that is an open book, and memory that is not.
-use Rattle.std.proofs.Common.{◌≡◌, ℕ, ◌*◌, ◌/◌, ◌<◌, ◌≤◌, min, Bool, true, false, ◌&&◌, not, eqb, leb, ◌⊎◌, List, length, get_or, take, drop, Some, None, sum_by, sym, refl, ap, ◌∙◌, ap₂, subst, inl, inr, arith, lit<}
+use Rattle.std.proofs.Common.{◌≡◌, ℕ, ◌+◌, ◌*◌, ◌/◌, ◌%◌, ◌<◌, ◌≤◌, min, Bool, true, false, ◌&&◌, not, eqb, leb, ◌⊎◌, List, length, get_or, take, drop, Some, None, sum_by, sym, refl, ap, ◌∙◌, ap₂, subst, inl, inr, arith, lit<}
 use Rattle.std.proofs.lemmas.List.{get_or-take, length-take-le}
+use Rattle.std.proofs.lemmas.List.FromFn.{fill_by_all, length-map-range_with_len, get_or-map-range_with_len}
 use Rattle.std.specs.Simd.{first_chunks}
 use Rattle.std.proofs.lemmas.Bool.{lt-leb, le-leb, leb-true, eq-eqb, ne_eqb, and_left, and_right, and_cases, and_from, and_parts, not-true, not-false, cases_lt}
 use Rattle.meaning.specs.Text.{pick}
 use Rattle.meaning.proofs.Picks.{some_picked}
 use Rattle.store.specs.Opened.{limits_of, tokens_asked, rest_asked}
-use Rattle.store.specs.Kept.{limits_at, limits_kept, kept_at, looks_kept, counts_kept, table_kept, table_sum, long_enough, entries_at, is_open}
-use Rattle.store.specs.Counted.{largest, counts_in, counts_of, counts_within, OpenBook}
+use Rattle.store.specs.Kept.{limits_at, limits_kept, kept_at, looks_kept, counts_kept, table_kept, table_sum, long_enough, entries_at, bytes_of, unpacked, widths_at, is_open}
+use Rattle.store.specs.Counted.{largest, counts_in, counts_within, OpenBook}
 use Rattle.store.specs.declared.kept.Counts.{Counts}
 use Rattle.store.specs.declared.kept.Kept.{Kept}
-use Rattle.store.proofs.Tables.{table_sum_take, entries_read, length_entries, sum_entries}
+use Rattle.store.proofs.Tables.{table_sum_take, length_entries, sum_entries}
 
 module _ (bytes : ℕ) (rs : List ℕ) where
   limits_fail : limits_kept rs ≡ false → is_open bytes rs ≡ false
@@ -77,6 +78,13 @@ open_from_parts bytes rs p =
 paragraphs_within : (rs : List ℕ) → counts_kept rs ≡ true → get_or rs 4 0 ≤ get_or rs 0 0
 paragraphs_within rs e = leb-true _ _ (and_parts (leb (get_or rs 4 0) (get_or rs 0 0)) _ e).0
 
+-- the same twelve numbers are the same widths
+pub unpacked_same : (f g : ℕ → ℕ) → ((i : ℕ) → i < 12 → f i ≡ g i) → unpacked f ≡ unpacked g
+unpacked_same f g at =
+    let width : (ℕ → ℕ) → ℕ → ℕ = λ h k. get_or (bytes_of (h (k / 8))) (k % 8) 0 in
+    fill_by_all (width g) (unpacked f) 95 0 (length-map-range_with_len (width f) 0 95)
+    (λ k l. get_or-map-range_with_len (width f) 0 95 k k 0 l (omega arith) ∙ ap (λ v. get_or (bytes_of v) (k % 8) 0) (at (k / 8) (omega arith)))
+
 -- two rows of numbers with the same header
 module _ (xs rs : List ℕ) (at : (i : ℕ) → i < 64 → get_or xs i 0 ≡ get_or rs i 0) where
   pub limits_same : limits_at xs ≡ limits_at rs
@@ -91,8 +99,21 @@ module _ (xs rs : List ℕ) (at : (i : ℕ) → i < 64 → get_or xs i 0 ≡ get
   pub counts_kept_same : counts_kept xs ≡ counts_kept rs
   counts_kept_same = rw (at 4 (lit< tt), at 0 (lit< tt), at 5 (lit< tt), at 1 (lit< tt), at 6 (lit< tt)) refl
 
+  pub widths_same : widths_at xs ≡ widths_at rs
+  widths_same = unpacked_same (λ i. get_or xs (12 + i) 0) (λ i. get_or rs (12 + i) 0) (λ i h. at (12 + i) (omega arith))
+
   pub kept_same : kept_at xs ≡ kept_at rs
-  kept_same = rw (at 0 (lit< tt), at 1 (lit< tt), at 2 (lit< tt), at 3 (lit< tt), at 10 (lit< tt), at 11 (lit< tt), at 4 (lit< tt), at 5 (lit< tt), at 6 (lit< tt)) refl
+  kept_same =
+      let at_4 = at 4 (lit< tt) in
+      let at_5 = at 5 (lit< tt) in
+      let at_6 = at 6 (lit< tt) in
+      let at_10 = at 10 (lit< tt) in
+      let at_11 = at 11 (lit< tt) in
+      λ i. record {
+        limits = limits_same i;
+        looks = record { widths = widths_same i; width = at_10 i; rows = at_11 i };
+        counts = record { paragraphs = at_4 i; size = at_5 i; bytes = at_6 i };
+      }
 
   pub table_kept_same : ((first : ℕ) → first < 66 → table_sum first (get_or rs 4 0) xs ≡ table_sum first (get_or rs 4 0) rs) → table_kept xs ≡ table_kept rs
   table_kept_same sums = rw (at 4 (lit< tt), at 6 (lit< tt), at 5 (lit< tt), sums 64 (lit< tt), sums 65 (lit< tt)) refl
@@ -143,82 +164,81 @@ and_turned true false = refl
 and_turned false true = refl
 and_turned false false = refl
 
--- a book judged by its header, as it is read
-module _ (ts rs hs : List ℕ) (head : hs ≡ take 64 rs) where
+-- a header that was read
+pub record HeaderRead (rs : List ℕ) (k : Kept) : Type 0 where
+  pub limits : limits_kept rs ≡ true
+  pub looks : looks_kept rs ≡ true
+  pub same : k ≡ kept_at rs
+
+module _ (rs hs : List ℕ) (head : hs ≡ take 64 rs) where
   header_at : (i : ℕ) → i < 64 → get_or hs i 0 ≡ get_or rs i 0
   header_at i h = ap (λ xs. get_or xs i 0) head ∙ get_or-take 64 rs i 0 h
 
-  pub header_fails : (limits_kept hs && looks_kept hs) ≡ false → is_open (length ts) rs ≡ false
-  header_fails e = head_fails (length ts) rs (sym (ap₂ ◌&&◌ (limits_kept_same hs rs header_at) (looks_kept_same hs rs header_at)) ∙ e)
+  pub header_fails : (bytes : ℕ) → (limits_kept hs && looks_kept hs) ≡ false → is_open bytes rs ≡ false
+  header_fails bytes e = head_fails bytes rs (sym (ap₂ ◌&&◌ (limits_kept_same hs rs header_at) (looks_kept_same hs rs header_at)) ∙ e)
 
-  module _ (k : Kept) (told : Some k ≡ pick (limits_kept hs && looks_kept hs) (Some (kept_at hs)) None) where
-    read : ((limits_kept hs && looks_kept hs) ≡ true) × (k ≡ kept_at hs)
-    read = some_picked (limits_kept hs && looks_kept hs) k (kept_at hs) told
+  pub header_read : {k : Kept} → Some k ≡ pick (limits_kept hs && looks_kept hs) (Some (kept_at hs)) None → HeaderRead rs k
+  header_read {k} told =
+      let read = some_picked (limits_kept hs && looks_kept hs) k (kept_at hs) told in
+      let good = and_parts (limits_kept hs) (looks_kept hs) read.0 in
+      record {
+        limits = sym (limits_kept_same hs rs header_at) ∙ good.0;
+        looks = sym (looks_kept_same hs rs header_at) ∙ good.1;
+        same = read.1 ∙ kept_same hs rs header_at;
+      }
 
-    pub kept_is : k ≡ kept_at rs
-    kept_is = read.1 ∙ kept_same hs rs header_at
+-- a book judged by its header
+module _ (ts : List ℕ) {rs : List ℕ} {k : Kept} (header : HeaderRead rs k) where
+  pub too_short : (length ts < tokens_asked (limits_of k.limits)) ⊎ (length rs < rest_asked (limits_of k.limits)) → is_open (length ts) rs ≡ false
+  too_short (inl h) = tokens_short (length ts) rs (subst (λ j. length ts < tokens_asked (limits_of j.limits)) header.same h)
+  too_short (inr h) = rest_short (length ts) rs (subst (λ j. length rs < rest_asked (limits_of j.limits)) header.same h)
 
-    pub too_short : (length ts < tokens_asked (limits_of k.limits)) ⊎ (length rs < rest_asked (limits_of k.limits)) → is_open (length ts) rs ≡ false
-    too_short (inl h) = tokens_short (length ts) rs (subst (λ j. length ts < tokens_asked (limits_of j.limits)) kept_is h)
-    too_short (inr h) = rest_short (length ts) rs (subst (λ j. length rs < rest_asked (limits_of j.limits)) kept_is h)
+  pub too_many : false ≡ counts_within k.counts k.limits → is_open (length ts) rs ≡ false
+  too_many e = counts_fail (length ts) rs (ap (λ j. counts_within j.counts j.limits) (sym header.same) ∙ sym e)
 
-    pub too_many : false ≡ counts_within (counts_of k) k.limits → is_open (length ts) rs ≡ false
-    too_many e = counts_fail (length ts) rs (ap (λ j. counts_within (counts_of j) j.limits) (sym kept_is) ∙ sym e)
+  module _ (within : true ≡ counts_within k.counts k.limits) where
+    counts : counts_kept rs ≡ true
+    counts = ap (λ j. counts_within j.counts j.limits) (sym header.same) ∙ sym within
 
-    -- the entries in front of what is behind the header
-    pub entries_are :
-        (ns : List ℕ) (chunks : List (List ℕ)) (m : ℕ) → true ≡ counts_within (counts_of k) k.limits → rest_asked (limits_of k.limits) ≤ length rs → ns ≡ drop 64 rs →
-        m ≡ length ns / 4 → chunks ≡ first_chunks 4 m ns → take k.paragraphs chunks ≡ entries_at rs
-    entries_are ns chunks m within room e f g =
-        let few = leb-true k.paragraphs k.limits.paragraphs (and_parts _ _ (sym within)).0 in
-        entries_read rs ns chunks k.paragraphs m e f g (ap (λ j. j.paragraphs) kept_is) (omega arith)
+    module _ {es : List (List ℕ)} {n : Counts} (behind : es ≡ first_chunks 4 k.counts.paragraphs (drop 64 rs)) (counted : n ≡ counts_in es) where
+      entries : es ≡ entries_at rs
+      unfolding entries_at
+      entries = behind ∙ ap (λ j. first_chunks 4 j.counts.paragraphs (drop 64 rs)) header.same
 
-    module _ (es : List (List ℕ)) (entries : es ≡ entries_at rs) (within : true ≡ counts_within (counts_of k) k.limits) where
-      counts : counts_kept rs ≡ true
-      counts = ap (λ j. counts_within (counts_of j) j.limits) (sym kept_is) ∙ sym within
-
-      abbrev same : Bool
-      same = equal_counts (counts_in es) (counts_of k)
-
-      table_told : same ≡ table_kept rs
+      table_told : equal_counts n k.counts ≡ table_kept rs
       table_told =
-          let number : k.paragraphs ≡ get_or rs 4 0 = ap (λ j. j.paragraphs) kept_is in
-          let size : k.size ≡ get_or rs 5 0 = ap (λ j. j.size) kept_is in
-          let bytes : k.bytes ≡ get_or rs 6 0 = ap (λ j. j.bytes) kept_is in
-          let kept_limits : limits_kept rs ≡ true = sym (limits_kept_same hs rs header_at) ∙ (and_parts _ _ read.0).0 in
-          let limits = and_parts (leb (get_or rs 0 0) 4096) _ kept_limits in
+          let limits = and_parts (leb (get_or rs 0 0) 4096) _ header.limits in
           let tokens = and_parts (leb (get_or rs 1 0) 65536) _ limits.1 in
           let few = leb-true (get_or rs 1 0) 65536 tokens.0 in
           let c₀ = and_parts (leb (get_or rs 4 0) (get_or rs 0 0)) _ counts in
           let c₁ = and_parts (leb (get_or rs 5 0) (get_or rs 1 0)) (leb (get_or rs 6 0) (2 * get_or rs 1 0)) c₀.1 in
           let sizes_few = leb-true (get_or rs 5 0) (get_or rs 1 0) c₁.0 in
           let bytes_few = leb-true (get_or rs 6 0) (2 * get_or rs 1 0) c₁.1 in
-          let all : eqb (length es) k.paragraphs ≡ true = eq-eqb _ _ (ap length entries ∙ (length_entries rs ∙ sym number)) in
-          let sizes : eqb (counts_in es).size k.size ≡ eqb (table_sum 65 (get_or rs 4 0) rs) (get_or rs 5 0) =
-          min_eqb _ _ (omega arith) ∙ ap₂ eqb (ap (sum_by (λ e. get_or e 1 0)) entries ∙ sum_entries 1 rs (lit< tt)) size in
-          let lengths : eqb (counts_in es).bytes k.bytes ≡ eqb (table_sum 64 (get_or rs 4 0) rs) (get_or rs 6 0) =
-          min_eqb _ _ (omega arith) ∙ ap₂ eqb (ap (sum_by (λ e. get_or e 0 0)) entries ∙ sum_entries 0 rs (lit< tt)) bytes in
-          ap₂ ◌&&◌ all (ap₂ ◌&&◌ sizes lengths)
-          ∙ and_turned (eqb (table_sum 65 (get_or rs 4 0) rs) (get_or rs 5 0)) (eqb (table_sum 64 (get_or rs 4 0) rs) (get_or rs 6 0))
+          let all : eqb (length es) (get_or rs 4 0) ≡ true = eq-eqb _ _ (ap length entries ∙ length_entries rs) in
+          let sizes : eqb (counts_in es).size (get_or rs 5 0) ≡ eqb (table_sum 65 (get_or rs 4 0) rs) (get_or rs 5 0) =
+          min_eqb _ _ (omega arith) ∙ ap (λ m. eqb m (get_or rs 5 0)) (ap (sum_by (λ e. get_or e 1 0)) entries ∙ sum_entries 1 rs (lit< tt)) in
+          let lengths : eqb (counts_in es).bytes (get_or rs 6 0) ≡ eqb (table_sum 64 (get_or rs 4 0) rs) (get_or rs 6 0) =
+          min_eqb _ _ (omega arith) ∙ ap (λ m. eqb m (get_or rs 6 0)) (ap (sum_by (λ e. get_or e 0 0)) entries ∙ sum_entries 0 rs (lit< tt)) in
+          ap₂ equal_counts counted (ap (λ j. j.counts) header.same)
+          ∙ (ap₂ ◌&&◌ all (ap₂ ◌&&◌ sizes lengths)
+          ∙ and_turned (eqb (table_sum 65 (get_or rs 4 0) rs) (get_or rs 5 0)) (eqb (table_sum 64 (get_or rs 4 0) rs) (get_or rs 6 0)))
 
-      pub table_off : (h n : Counts) → h ≡ counts_in es → n ≡ counts_of k → true ≡ not (equal_counts h n) → is_open (length ts) rs ≡ false
-      table_off h n f g e = table_fails (length ts) rs (sym table_told ∙ not-true same (ap₂ (λ a b. not (equal_counts a b)) (sym f) (sym g) ∙ sym e))
+      pub table_off : true ≡ not (equal_counts n k.counts) → is_open (length ts) rs ≡ false
+      table_off e = table_fails (length ts) rs (sym table_told ∙ not-true (equal_counts n k.counts) (sym e))
 
-      pub judged :
-          (h n : Counts) → h ≡ counts_in es → n ≡ counts_of k → tokens_asked (limits_of k.limits) ≤ length ts → rest_asked (limits_of k.limits) ≤ length rs → false ≡ not (equal_counts h n) →
-          OpenBook ts rs k es
-      judged h n f g a b e =
+      pub judged : tokens_asked (limits_of k.limits) ≤ length ts → rest_asked (limits_of k.limits) ≤ length rs → false ≡ not (equal_counts n k.counts) → OpenBook ts rs k es
+      judged a b e =
           record {
             opened =
                 open_from_parts (length ts) rs (record {
-                  limits = sym (limits_kept_same hs rs header_at) ∙ (and_parts _ _ read.0).0;
-                  bytes_enough = subst (λ j. tokens_asked (limits_of j.limits) ≤ length ts) kept_is a;
-                  numbers_enough = subst (λ j. rest_asked (limits_of j.limits) ≤ length rs) kept_is b;
-                  looks = sym (looks_kept_same hs rs header_at) ∙ (and_parts _ _ read.0).1;
+                  limits = header.limits;
+                  bytes_enough = subst (λ j. tokens_asked (limits_of j.limits) ≤ length ts) header.same a;
+                  numbers_enough = subst (λ j. rest_asked (limits_of j.limits) ≤ length rs) header.same b;
+                  looks = header.looks;
                   counts = counts;
-                  table = sym table_told ∙ not-false same (ap₂ (λ a b. not (equal_counts a b)) (sym f) (sym g) ∙ sym e);
+                  table = sym table_told ∙ not-false (equal_counts n k.counts) (sym e);
                 });
-            same = kept_is;
+            same = header.same;
             entries = entries;
-            long = ap length entries ∙ (length_entries rs ∙ sym (ap (λ j. j.paragraphs) kept_is));
+            long = ap length entries ∙ (length_entries rs ∙ sym (ap (λ j. j.counts.paragraphs) header.same));
           }

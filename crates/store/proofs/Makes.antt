@@ -10,10 +10,12 @@ use Rattle.wire.specs.declared.refusal.Refusal.{Refusal}
 use Rattle.wire.specs.declared.refusal.Refusal.TheVariants.{BadOpening, NoParagraph, TooMuch}
 use Rattle.store.specs.Kept.{kept_at, table_sum, entries_at, is_open}
 use Rattle.store.specs.Counted.{largest, counts_in, counts_within, OpenBook}
-use Rattle.store.specs.Changes.{spliced, Edit, entry_of, has_room, bytes_gone, paragraphs_after, size_after, bytes_after, edited_tokens, edited_rest, Changes}
-use Rattle.store.specs.Edits.{bytes_in, counts_in_content, entry_with, edit_in, entries_after, Replaces}
+use Rattle.store.specs.Changes.{spliced, Edit, entry_of, has_room, paragraphs_after, size_after, bytes_after, edited_tokens, edited_rest, Changes}
+use Rattle.store.specs.Edits.{edit_by, replacement_by, bytes_in, counts_in_content, entry_with, edit_in, Replaces}
 use Rattle.store.specs.Splices.{replaced}
 use Rattle.store.specs.declared.changes.Content.{Content}
+use Rattle.store.specs.declared.changes.Edit as Asked
+use Rattle.store.specs.declared.changes.Edit.TheVariants.{Put, PutIn, Cut}
 use Rattle.store.specs.declared.changes.Replacement.{Replacement}
 use Rattle.store.specs.declared.kept.Counts.{Counts}
 use Rattle.store.specs.declared.kept.Kept.{Kept}
@@ -27,11 +29,11 @@ pub record NumbersOf (ts rs : List ℕ) (k : Kept) : Type 0 where
   pub bulk_few : k.limits.bulk ≤ 4096
   pub bytes_long : 4 * k.limits.tokens ≤ length ts
   pub rest_long : 4096 + 8 * k.limits.paragraphs ≤ length rs
-  pub paragraphs_within : k.paragraphs ≤ k.limits.paragraphs
-  pub size_within : k.size ≤ k.limits.tokens
-  pub bytes_within : k.bytes ≤ 2 * k.limits.tokens
-  pub bytes_add_up : table_sum 64 k.paragraphs rs ≡ k.bytes
-  pub sizes_add_up : table_sum 65 k.paragraphs rs ≡ k.size
+  pub paragraphs_within : k.counts.paragraphs ≤ k.limits.paragraphs
+  pub size_within : k.counts.size ≤ k.limits.tokens
+  pub bytes_within : k.counts.bytes ≤ 2 * k.limits.tokens
+  pub bytes_add_up : table_sum 64 k.counts.paragraphs rs ≡ k.counts.bytes
+  pub sizes_add_up : table_sum 65 k.counts.paragraphs rs ≡ k.counts.size
 
 pub numbers_at : (ts rs : List ℕ) → is_open (length ts) rs ≡ true → NumbersOf ts rs (kept_at rs)
 numbers_at ts rs e =
@@ -69,13 +71,13 @@ within_all first at gone n total rs e h =
 
 -- what is known of a replacement of paragraphs that are there
 pub replaces :
-    (ts rs : List ℕ) (k : Kept) (es : List (List ℕ)) (before part : Counts) (c : Replacement) → OpenBook ts rs k es → c.at + c.gone ≤ k.paragraphs →
+    (ts rs : List ℕ) (k : Kept) (es : List (List ℕ)) (before part : Counts) (c : Replacement) → OpenBook ts rs k es → c.at + c.gone ≤ k.counts.paragraphs →
     before ≡ counts_in (take c.at es) → part ≡ counts_in (take (c.at + c.gone - c.at) (drop c.at es)) → Replaces ts rs k before part c
 replaces ts rs k es before part c book h f g =
     let n : NumbersOf ts rs k = numbers_of ts rs k es book in
-    let b = within_all 64 c.at c.gone k.paragraphs k.bytes rs n.bytes_add_up h in
-    let s = within_all 65 c.at c.gone k.paragraphs k.size rs n.sizes_add_up h in
-    let many : k.paragraphs ≡ get_or rs 4 0 = ap (λ j. j.paragraphs) book.same in
+    let b = within_all 64 c.at c.gone k.counts.paragraphs k.counts.bytes rs n.bytes_add_up h in
+    let s = within_all 65 c.at c.gone k.counts.paragraphs k.counts.size rs n.sizes_add_up h in
+    let many : k.counts.paragraphs ≡ get_or rs 4 0 = ap (λ j. j.counts.paragraphs) book.same in
     let left : c.at + c.gone - c.at ≡ c.gone = omega arith in
     let taken : take (c.at + c.gone - c.at) (drop c.at es) ≡ take c.gone (drop c.at (entries_at rs)) = ap₂ (λ m xs. take m (drop c.at xs)) left book.entries in
     let front : before.bytes ≡ table_sum 64 c.at rs =
@@ -88,6 +90,7 @@ replaces ts rs k es before part c book h f g =
       opened = book.opened;
       same = book.same;
       there = h;
+      paragraphs_before = ap (λ x. x.paragraphs) f ∙ (ap (λ xs. length (take c.at xs)) book.entries ∙ length-take-le c.at (entries_at rs) (omega (arith, length_entries rs)));
       paragraphs_gone = ap (λ x. x.paragraphs) g ∙ (ap length taken ∙ length-take-le c.gone (drop c.at (entries_at rs)) (omega (arith, length-drop c.at (entries_at rs), length_entries rs)));
       bytes_before = front;
       bytes_gone = omega arith;
@@ -126,13 +129,10 @@ module _ (ts rs ts' rs' : List ℕ) (e : Edit) (open_book : is_open (length ts) 
       }
 
 pub tokens_edited :
-    (e : Edit) (ts rs : List ℕ) (from gone behind : ℕ) → from ≡ table_sum 64 e.at rs → from + gone ≡ table_sum 64 (e.at + e.gone) rs → behind ≡ get_or rs 6 0 - (from + gone) →
-    replaced 0 ts from gone behind e.bytes ≡ edited_tokens e ts rs
+    (e : Edit) (ts rs : List ℕ) {start stop end : ℕ} → start ≡ table_sum 64 e.at rs → stop ≡ table_sum 64 (e.at + e.gone) rs → end ≡ get_or rs 6 0 →
+    replaced 0 ts start (stop - start) (end - stop) e.bytes ≡ edited_tokens e ts rs
 unfolding edited_tokens spliced
-tokens_edited e ts rs from gone behind f g h =
-    let part : gone ≡ bytes_gone e rs = omega arith in
-    let end : behind ≡ get_or rs 6 0 - table_sum 64 (e.at + e.gone) rs = omega arith in
-    rw (f, part, end) refl
+tokens_edited e ts rs f g h = rw (f, g, h) refl
 
 -- the counts are written into the header
 pub header_written :
@@ -148,10 +148,14 @@ header_written xs hs ys p s b long cut written =
     ∙ set-append_left (set (set h 4 p) 5 s) t 6 b (omega (arith, length-set (set h 4 p) 5 s, length-set h 4 p)))))
 
 pub rest_edited :
-    (c : Replacement) (rs xs : List ℕ) (n p s b : ℕ) → xs ≡ entries_after rs n c → n ≡ get_or rs 4 0 → p ≡ paragraphs_after (edit_in c) rs → s ≡ size_after (edit_in c) rs → b ≡ bytes_after (edit_in c) rs →
+    (c : Replacement) (rs xs : List ℕ) {flat : List ℕ} {start stop end p s b : ℕ} → xs ≡ replaced 0 rs start (stop - start) (end - stop) flat → start ≡ 64 + 4 * c.at → stop ≡ 64 + 4 * (c.at + c.gone) →
+    end ≡ 64 + 4 * get_or rs 4 0 → flat ≡ entry_of (edit_in c) → p ≡ paragraphs_after (edit_in c) rs → s ≡ size_after (edit_in c) rs → b ≡ bytes_after (edit_in c) rs →
     set (set (set xs 4 p) 5 s) 6 b ≡ edited_rest (edit_in c) rs
-unfolding edited_rest
-rest_edited c rs xs n p s b e f g h i = rw (e, f, g, h, i) refl
+unfolding edited_rest spliced
+rest_edited c rs xs {flat} {start} {stop} {end} e f g h i j k l =
+    let gone : stop - start ≡ 4 * c.gone = omega arith in
+    let behind : end - stop ≡ 4 * (get_or rs 4 0 - (c.at + c.gone)) = omega arith in
+    rw (e, gone, behind, f, i, j, k, l) refl
 
 -- the new entry, or none
 pub entry_flat :
@@ -160,11 +164,17 @@ pub entry_flat :
 entry_flat at gone None o es flat e m f = f ∙ ap (flat_map (λ x. x)) (subst (λ p. MatchOption p (es ≡ []) (λ x. es ≡ x ∷ [])) e m)
 entry_flat at gone (Some new) o es flat e m f = f ∙ ap (flat_map (λ x. x)) (subst (λ p. MatchOption p (es ≡ []) (λ x. es ≡ x ∷ [])) e m)
 
+-- an edit, as a replacement in a book of so many paragraphs
+pub edit_made : (edit : Asked.Edit) (rs : List ℕ) (n : ℕ) → n ≡ get_or rs 4 0 → edit_in (replacement_by edit n) ≡ edit_by edit rs
+edit_made (Put k new) rs n e = ap (λ m. edit_in (replacement_by (Put k new) m)) e
+edit_made (PutIn k new) rs n e = refl
+edit_made (Cut k) rs n e = refl
+
 -- an open book that `ok_or` and `?` let through
 pub found :
-    (ts rs : List ℕ) (o : Option (Kept × Bor (List (List ℕ)))) (r : Result (Kept × Bor (List (List ℕ))) Refusal) (k : Kept) (es : Bor (List (List ℕ))) →
+    {ts rs : List ℕ} {o : Option (Kept × Bor (List (List ℕ)))} {r : Result (Kept × Bor (List (List ℕ))) Refusal} {k : Kept} {es : Bor (List (List ℕ))} →
     MatchOption o (is_open (length ts) rs ≡ false) (λ p. OpenBook ts rs p.0 p.1.now) → o ≡ result_ok r → r ≡ Ok (k, es) → OpenBook ts rs k es.now
-found ts rs o r k es m f g = subst (λ p. MatchOption p (is_open (length ts) rs ≡ false) (λ q. OpenBook ts rs q.0 q.1.now)) (f ∙ ap result_ok g) m
+found {ts} {rs} m f g = subst (λ p. MatchOption p (is_open (length ts) rs ≡ false) (λ q. OpenBook ts rs q.0 q.1.now)) (f ∙ ap result_ok g) m
 
 -- what comes, and how long it is
 pub come_bytes : (new : Option Content) → length (bytes_in new) ≡ (counts_in_content new).bytes

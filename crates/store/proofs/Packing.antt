@@ -1,13 +1,14 @@
 -- The letters' widths, eight to a number.
-use Rattle.std.proofs.Common.{◌≡◌, ℕ, zero, suc, ◌+◌, ◌-◌, ◌*◌, ◌/◌, ◌<◌, ◌≤◌, List, [], ◌∷◌, ◌++◌, length, get_or, drop, map, refl, ap, ap₂, ◌∙◌, subst, inl, inr, arith, lit<, w64}
+use Rattle.std.proofs.Common.{◌≡◌, ℕ, zero, suc, ◌+◌, ◌-◌, ◌*◌, ◌/◌, ◌<◌, ◌≤◌, List, [], ◌∷◌, ◌++◌, length, get_or, map, refl, ap, ap₂, ◌∙◌, subst, inl, inr, arith, lit<, w64}
 use denote.Param.Members.{Called, Mut}
 use Rattle.std.specs.Array.{IsFromFnResultFrom, IsFromFnResult}
 use Rattle.std.specs.Int.{from_le_bytes}
 use Rattle.std.specs.List.{range_with_len}
 use Rattle.std.specs.Simd.{first_chunks}
-use Rattle.std.proofs.lemmas.List.{get_or-take, get_or-drop, length-append}
+use Rattle.std.proofs.lemmas.List.{length-append}
 use Rattle.std.proofs.lemmas.List.FromFn.{fill_by_all}
 use Rattle.std.proofs.lemmas.Bool.{cases_order}
+use Rattle.wire.proofs.Chunks.{chunk_at}
 use Rattle.store.specs.Opened.{packed}
 
 -- an array made by calls of a closure that changes nothing
@@ -23,13 +24,6 @@ module _ {F B : Type 0} (g : Mut F (ℕ × Unit {0}) B) (f : F) (h : ℕ → B) 
 
   pub made_by_calls : (ys : List B) → B → IsFromFnResult g f ys top → ys ≡ map h (range_with_len 0 top)
   made_by_calls ys e r = fill_by_all h ys top e r.long (λ k l. calls_at ys 0 top (omega arith) r.each k e (omega arith) (omega arith))
-
--- a chunk's elements stand where they stood
-chunk_at : (n m : ℕ) (xs : List ℕ) (k i : ℕ) → k < m → i < n → get_or (get_or (first_chunks n m xs) k []) i 0 ≡ get_or xs (n * k + i) 0
-chunk_at n zero xs k i h l = absurd (omega arith)
-chunk_at n (suc m) xs zero i h l = get_or-take n xs i 0 l ∙ ap (λ j. get_or xs j 0) (omega arith)
-chunk_at n (suc m) xs (suc k) i h l =
-    chunk_at n m (drop n xs) k i (omega arith) l ∙ (get_or-drop n xs (n * k + i) 0 ∙ ap (λ j. get_or xs j 0) (omega arith))
 
 -- a row with one more behind it, as the row with that default
 with_last : (ws : List ℕ) (j : ℕ) → j < length ws + 1 → get_or (ws ++ 1 ∷ []) j 0 ≡ get_or ws j 1
@@ -47,7 +41,7 @@ packed_eight ws vs eights k y same long e h v =
     let bs : List ℕ = get_or eights k [] in
     let at : (i : ℕ) → i < 8 → get_or bs i 0 ≡ get_or vs (32 + 8 * k + i - 32) 1 = λ i l.
     ap (λ es. get_or (get_or es k []) i 0) (e ∙ ap (λ m. first_chunks 8 m (ws ++ 1 ∷ [])) n)
-    ∙ (chunk_at 8 12 (ws ++ 1 ∷ []) k i h l ∙ (with_last ws (8 * k + i) (omega arith) ∙ ap₂ (λ w j. get_or w j 1) same (omega arith))) in
+    ∙ (chunk_at 8 12 [] (ws ++ 1 ∷ []) k i h l ∙ (with_last ws (8 * k + i) (omega arith) ∙ ap₂ (λ w j. get_or w j 1) same (omega arith))) in
     let sum : y ≡ get_or bs 0 0 + get_or bs 1 0 * 256 + get_or bs 2 0 * 65536 + get_or bs 3 0 * 16777216 + get_or bs 4 0 * 4294967296 + get_or bs 5 0 * 1099511627776 + get_or bs 6 0 * 281474976710656 + get_or bs 7 0 * 72057594037927936 = v in
     let first : get_or bs 0 0 ≡ get_or vs (32 + 8 * k - 32) 1 = at 0 (lit< tt) ∙ ap (λ j. get_or vs j 1) (omega arith) in
     omega (arith, at 1 (lit< tt), at 2 (lit< tt), at 3 (lit< tt), at 4 (lit< tt), at 5 (lit< tt), at 6 (lit< tt), at 7 (lit< tt))

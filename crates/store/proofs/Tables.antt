@@ -1,11 +1,11 @@
 -- The entries of paragraphs, added up.
 use Rattle.std.proofs.Common.{◌≡◌, ℕ, zero, suc, ◌+◌, ◌-◌, ◌*◌, ◌/◌, ◌<◌, ◌≤◌, List, [], ◌∷◌, length, get_or, take, drop, sum_by, refl, ap, ◌∙◌, ap₂, inl, inr, add-one, arith}
-use Rattle.std.proofs.lemmas.List.{get_or-take, get_or-drop, drop-drop, drop-take, take-take, length-drop}
+use Rattle.std.proofs.lemmas.List.{get_or-take, get_or-drop, drop-drop, drop-take, take-take, length-drop, length-take-le}
 use Rattle.std.proofs.lemmas.List.Sums.{sum_by-append}
 use Rattle.std.specs.Simd.{first_chunks}
 use Rattle.std.proofs.lemmas.Bool.{cases_order}
 use Rattle.store.specs.Kept.{table_sum, entries_at}
-use Rattle.store.proofs.Splits.{take_further}
+use Rattle.std.proofs.Math.Seq.{take-add}
 
 pub table_sum_zero : (first : ℕ) (rs : List ℕ) → table_sum first 0 rs ≡ 0
 unfolding table_sum
@@ -79,7 +79,7 @@ pub sum_part :
 sum_part j a b rs h l =
     let f : List ℕ → ℕ = λ e. get_or e j 0 in
     let es : List (List ℕ) = entries_at rs in
-    let split : sum_by f (take (a + b) es) ≡ sum_by f (take a es) + sum_by f (take b (drop a es)) = ap (sum_by f) (take_further a b es) ∙ sum_by-append f (take a es) (take b (drop a es)) in
+    let split : sum_by f (take (a + b) es) ≡ sum_by f (take a es) + sum_by f (take b (drop a es)) = ap (sum_by f) (take-add a b es) ∙ sum_by-append f (take a es) (take b (drop a es)) in
     omega (arith, sum_front j a rs h (omega arith), sum_front j (a + b) rs h l)
 
 -- what stands behind a table does not matter to it
@@ -98,10 +98,10 @@ entries_take k rs h =
     let numbers : drop 64 (take k rs) ≡ take (k - 64) (drop 64 rs) = ap (λ j. drop 64 (take j rs)) more ∙ drop-take 64 (k - 64) rs in
     ap₂ (first_chunks 4) number numbers ∙ chunks_before (get_or rs 4 0) (k - 64) (drop 64 rs) (omega arith)
 
--- chunks of what is behind the header begin with the entries
-pub entries_read :
-    (rs ns : List ℕ) (chunks : List (List ℕ)) (n m : ℕ) → ns ≡ drop 64 rs → m ≡ length ns / 4 → chunks ≡ first_chunks 4 m ns → n ≡ get_or rs 4 0 → 64 + 4 * n ≤ length rs → take n chunks ≡ entries_at rs
-unfolding entries_at
-entries_read rs ns chunks n m e f g h room =
-    let long = ap length e ∙ length-drop 64 rs in
-    ap (take n) g ∙ (chunks_take 4 n m ns (omega arith) ∙ ap₂ (first_chunks 4) h e)
+-- the entries among all chunks behind the header
+pub entries_in_front :
+    (front : List ℕ) (chunks : List (List ℕ)) (n k : ℕ) → k ≡ length front - 64 → chunks ≡ first_chunks 4 (length (take k (drop 64 front)) / 4) (take k (drop 64 front)) → 64 + 4 * n ≤ length front →
+    take n chunks ≡ first_chunks 4 n (drop 64 front)
+entries_in_front front chunks n k long e room =
+    let whole : length (take k (drop 64 front)) ≡ k = length-take-le k (drop 64 front) (omega (arith, length-drop 64 front)) in
+    ap (take n) e ∙ (chunks_take 4 n _ (take k (drop 64 front)) (omega arith) ∙ chunks_before n k (drop 64 front) (omega arith))

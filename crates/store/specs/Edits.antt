@@ -1,11 +1,11 @@
 -- Edits as the code has them.
 --   edit_by, replacement_by       an edit as the specification has it, and as it is made in a book of so many paragraphs
---   bytes_come, counts_come, entry_with   what comes: its bytes, its counts, its entry
+--   entry_with                    the entry of a paragraph with these tokens
+--   bytes_come, counts_come, entry_come   what comes: its bytes, its counts, its entry
 --   edit_in                  a replacement as an edit
---   entries_after            the numbers with the entries as they are afterwards, before the header follows
---   FitsEntries              what the entries' numbers must have room for
 --   Replaces                 what a replacement is made from
-use Rattle.std.specs.Prelude.{◌≡◌, ℕ, ◌+◌, ◌-◌, ◌*◌, ◌≤◌, true, List, [], ◌∷◌, length, Some, None, Option, nat_lt}
+use Rattle.std.specs.Prelude.{◌≡◌, ℕ, ◌+◌, ◌*◌, ◌≤◌, true, List, [], ◌∷◌, length, Some, None, Option, nat_lt}
+use Rattle.std.specs.Option.{option_map}
 use Rattle.meaning.specs.Text.{pick}
 use Rattle.store.specs.Kept.{kept_at, table_sum, is_open}
 use Rattle.store.specs.Changes
@@ -44,34 +44,29 @@ bytes_come c = bytes_in c.new
 abbrev pub counts_come : Replacement → Counts
 counts_come c = counts_in_content c.new
 
+abbrev pub entry_come : Replacement → Option (List ℕ)
+entry_come c = option_map entry_with c.new
+
 abbrev pub edit_in : Replacement → Changes.Edit
 edit_in c = record { at = c.at; gone = c.gone; come = (counts_come c).paragraphs; bytes = bytes_come c; size = (counts_come c).size }
-
--- the table after an edit, the header as it was
-abbrev pub entries_after : List ℕ → ℕ → Replacement → List ℕ
-entries_after rs n c = spliced rs (64 + 4 * c.at) (4 * c.gone) (4 * (n - (c.at + c.gone))) (entry_of (edit_in c))
-
-pub record FitsEntries (rs : List ℕ) (n : ℕ) (c : Replacement) : Type 0 where
-  pub there : c.at + c.gone ≤ n
-  pub few : n ≤ 4096
-  pub long : 64 + 4 * (n + 1) ≤ length rs
 
 -- what a replacement is made from: an open book, what is kept of it, and the counts of what stands before the place and of what goes
 pub record Replaces (ts rs : List ℕ) (k : Kept) (before part : Counts) (c : Replacement) : Type 0 where
   pub opened : is_open (length ts) rs ≡ true
   pub same : k ≡ kept_at rs
-  pub there : c.at + c.gone ≤ k.paragraphs
+  pub there : c.at + c.gone ≤ k.counts.paragraphs
+  pub paragraphs_before : before.paragraphs ≡ c.at
   pub paragraphs_gone : part.paragraphs ≡ c.gone
   pub bytes_before : before.bytes ≡ table_sum 64 c.at rs
   pub bytes_gone : before.bytes + part.bytes ≡ table_sum 64 (c.at + c.gone) rs
   pub size_gone : table_sum 65 c.at rs + part.size ≡ table_sum 65 (c.at + c.gone) rs
-  pub bytes_within : before.bytes + part.bytes ≤ k.bytes
-  pub size_within : part.size ≤ k.size
-  pub size_few : k.size ≤ k.limits.tokens
-  pub bytes_few : k.bytes ≤ 2 * k.limits.tokens
+  pub bytes_within : before.bytes + part.bytes ≤ k.counts.bytes
+  pub size_within : part.size ≤ k.counts.size
+  pub size_few : k.counts.size ≤ k.limits.tokens
+  pub bytes_few : k.counts.bytes ≤ 2 * k.limits.tokens
   pub tokens_few : k.limits.tokens ≤ 65536
   pub paragraphs_few : k.limits.paragraphs ≤ 4096
-  pub paragraphs_within : k.paragraphs ≤ k.limits.paragraphs
+  pub paragraphs_within : k.counts.paragraphs ≤ k.limits.paragraphs
   pub bulk_few : k.limits.bulk ≤ 4096
   pub tokens_long : 4 * k.limits.tokens ≤ length ts
   pub rest_long : 4096 + 8 * k.limits.paragraphs ≤ length rs

@@ -1,13 +1,15 @@
 -- What is kept of an open book, at the front of the numbers: the header, and four numbers for each paragraph.
---   limits_at, kept_at   what the header says
+--   limits_at, looks_at, counts_at, kept_at   what the header says
 --   table_sum            a field of the paragraphs' entries, added up
 --   entries_at           the paragraphs' entries
 --   is_open              whether memory is an open book
---   widths_at            the letters' widths, unpacked
+--   unpacked, widths_at  the letters' widths, eight to a number
 use Rattle.std.specs.Prelude.{ℕ, zero, suc, ◌+◌, ◌*◌, ◌/◌, ◌%◌, Bool, ◌&&◌, List, [], ◌∷◌, map, length, drop, ◌==◌, nat_le, slice_index}
 use Rattle.std.specs.List.{range_with_len}
 use Rattle.std.specs.Simd.{first_chunks}
 use Rattle.store.specs.declared.opening.Limits.{Limits}
+use Rattle.store.specs.declared.opening.Looks.{Looks}
+use Rattle.store.specs.declared.kept.Counts.{Counts}
 use Rattle.store.specs.declared.kept.Kept.{Kept}
 use Rattle.store.specs.Opened.{limits_in_range, page_in_range, limits_of, tokens_asked, rest_asked}
 
@@ -17,9 +19,25 @@ limits_at rs = record { paragraphs = slice_index rs 0; tokens = slice_index rs 1
 abbrev pub limits_kept : List ℕ → Bool
 limits_kept rs = limits_in_range (limits_at rs)
 
+-- a number's eight bytes, the lowest first
+unfoldable pub bytes_of : ℕ → List ℕ
+bytes_of n =
+    n % 256 ∷ (n / 256 % 256 ∷ (n / 65536 % 256 ∷ (n / 16777216 % 256 ∷ (n / 4294967296 % 256 ∷ (n / 1099511627776 % 256 ∷ (n / 281474976710656 % 256 ∷ (n / 72057594037927936 % 256 ∷ [])))))))
+
+abbrev pub unpacked : (ℕ → ℕ) → List ℕ
+unpacked number = map (λ k. slice_index (bytes_of (number (k / 8))) (k % 8)) (range_with_len 0 95)
+
+abbrev pub widths_at : List ℕ → List ℕ
+widths_at rs = unpacked (λ i. slice_index rs (12 + i))
+
+abbrev pub looks_at : List ℕ → Looks
+looks_at rs = record { widths = widths_at rs; width = slice_index rs 10; rows = slice_index rs 11 }
+
+abbrev pub counts_at : List ℕ → Counts
+counts_at rs = record { paragraphs = slice_index rs 4; size = slice_index rs 5; bytes = slice_index rs 6 }
+
 abbrev pub kept_at : List ℕ → Kept
-kept_at rs =
-    record { limits = limits_at rs; width = slice_index rs 10; rows = slice_index rs 11; paragraphs = slice_index rs 4; size = slice_index rs 5; bytes = slice_index rs 6 }
+kept_at rs = record { limits = limits_at rs; looks = looks_at rs; counts = counts_at rs }
 
 -- the looks, and what there is within the limits; a token has two bytes at the most, and definitions have the second half of them
 abbrev pub looks_kept : List ℕ → Bool
@@ -46,11 +64,3 @@ long_enough bytes rs = nat_le (tokens_asked (limits_of (limits_at rs))) bytes &&
 
 unfoldable pub is_open : ℕ → List ℕ → Bool
 is_open bytes rs = limits_kept rs && (long_enough bytes rs && (looks_kept rs && (counts_kept rs && table_kept rs)))
-
--- a number's eight bytes, the lowest first
-unfoldable pub bytes_of : ℕ → List ℕ
-bytes_of n =
-    n % 256 ∷ (n / 256 % 256 ∷ (n / 65536 % 256 ∷ (n / 16777216 % 256 ∷ (n / 4294967296 % 256 ∷ (n / 1099511627776 % 256 ∷ (n / 281474976710656 % 256 ∷ (n / 72057594037927936 % 256 ∷ [])))))))
-
-abbrev pub widths_at : List ℕ → List ℕ
-widths_at rs = map (λ k. slice_index (bytes_of (slice_index rs (12 + k / 8))) (k % 8)) (range_with_len 0 95)

@@ -1,28 +1,40 @@
 // The changes to a book: a paragraph is put, put in or cut. What stands behind it in memory follows, and what is freed is 0.
 ghost use Rattle.std.specs.Prelude.{◌≡◌, ◌≤◌, length, slice_set};
 ghost use Rattle.store.specs.Changes.{Changes};
-ghost use Rattle.store.specs.Edits.{edit_by, replacement_by, edit_in, entry_with, bytes_come, counts_come, entries_after, FitsEntries, Replaces};
+ghost use Rattle.store.specs.Edits.{edit_by, replacement_by, edit_in, entry_with, bytes_come, counts_come, entry_come, Replaces};
 
-use crate::kept::{Counts, Entry, Kept, open_book};
+use crate::kept::{Counts, Entry, Kept, entry_start, open_book};
 use crate::splice::splice;
 use wire::Refusal;
 
 // The tokens of a paragraph, and their size.
-#[derive(Clone, Copy)]
+#[derive(Clone, Copy, Debug, PartialEq, Eq)]
 pub struct Content<'a> {
     pub bytes: &'a [u8],
     pub size: usize,
 }
 
-impl Content<'_> {
-    fn entry(self) -> Entry
-        ensures { result ≡ entry_with self.entry }
-    {
-        [self.bytes.len() as u64, self.size as u64, 0, 0]
+impl From<Content<'_>> for Entry {
+    ghost from_gives = { λ content entry. entry ≡ entry_with content };
+
+    fn from(content: Content<'_>) -> Entry {
+        [content.bytes.len() as u64, content.size as u64, 0, 0]
     }
 }
 
-#[derive(Clone, Copy)]
+impl From<Content<'_>> for Counts {
+    ghost from_gives = { λ content counts. counts ≡ record { paragraphs = 1; size = content.size; bytes = length content.bytes.now } };
+
+    fn from(content: Content<'_>) -> Counts {
+        Counts {
+            paragraphs: 1,
+            size: content.size,
+            bytes: content.bytes.len(),
+        }
+    }
+}
+
+#[derive(Clone, Copy, Debug, PartialEq, Eq)]
 pub enum Edit<'a> {
     // the paragraph with this number becomes these tokens; the one after the last is new
     Put(u16, Content<'a>),
@@ -31,7 +43,7 @@ pub enum Edit<'a> {
     Cut(u16),
 }
 
-// Before paragraph `at`, so many go, none or one, and a new one may come. What goes is a count and no flag: places and numbers of entries are reckoned with it.
+// From paragraph `at` on so many go, none or one, and a new one may come there. What goes is a count and no flag: places and numbers of entries are reckoned with it.
 #[derive(Clone, Copy)]
 struct Replacement<'a> {
     at: usize,
@@ -71,42 +83,20 @@ impl<'a> Replacement<'a> {
     fn bytes(self) -> &'a [u8]
         ensures { result.now ≡ bytes_come self.entry }
     {
-        match self.new {
-            Some(content) => content.bytes,
-            None => &[],
-        }
+        self.new.map_or(&[], |content| content.bytes)
+    }
+
+    fn entry(self) -> Option<Entry>
+        ensures { result ≡ entry_come self.entry }
+    {
+        self.new.map(Entry::from)
     }
 
     fn come(self) -> Counts
         ensures { result ≡ counts_come self.entry }
     {
-        match self.new {
-            Some(content) => Counts {
-                paragraphs: 1,
-                size: content.size,
-                bytes: content.bytes.len(),
-            },
-            None => Counts::default(),
-        }
+        self.new.map(Counts::from).unwrap_or_default()
     }
-}
-
-// The entries of paragraphs behind what goes follow.
-fn splice_entries(rest: &mut [u64], paragraphs: usize, replacement: Replacement<'_>)
-    requires { FitsEntries rest.old paragraphs replacement }
-    ensures { rest.new ≡ entries_after rest.old paragraphs replacement.entry }
-{
-    let Replacement { at, gone, new } = replacement;
-    let behind = paragraphs - (at + gone);
-    let entry = new.map(Content::entry);
-    splice(
-        rest,
-        64 + 4 * at,
-        4 * gone,
-        4 * behind,
-        entry.as_slice().as_flattened(),
-        0,
-    );
 }
 
 // What there is afterwards is told by what stands before the place and by what goes.
@@ -125,23 +115,32 @@ fn make(
     if come.size > kept.limits.bulk as usize {
         return Err(Refusal::TooMuch);
     }
+    let counts = kept.counts;
+    // Field by field: an `Add` of counts would have no place to say that its sums fit.
     let after = Counts {
-        paragraphs: kept.paragraphs - gone.paragraphs + come.paragraphs,
-        size: kept.size - gone.size + come.size,
-        bytes: kept.bytes - gone.bytes + come.bytes,
+        paragraphs: counts.paragraphs - gone.paragraphs + come.paragraphs,
+        size: counts.size - gone.size + come.size,
+        bytes: counts.bytes - gone.bytes + come.bytes,
     };
     if !after.within(kept.limits) {
         return Err(Refusal::TooMuch);
     }
     splice(
         tokens,
-        before.bytes,
-        gone.bytes,
-        kept.bytes - (before.bytes + gone.bytes),
+        before.bytes..before.bytes + gone.bytes,
+        counts.bytes,
         replacement.bytes(),
         0,
     );
-    splice_entries(rest, kept.paragraphs, replacement);
+    // The entries of paragraphs behind what goes follow.
+    let entry = replacement.entry();
+    splice(
+        rest,
+        entry_start(before.paragraphs)..entry_start(before.paragraphs + gone.paragraphs),
+        entry_start(counts.paragraphs),
+        entry.as_slice().as_flattened(),
+        0,
+    );
     after.write(rest.first_chunk_mut().unwrap());
     Ok(())
 }
@@ -151,9 +150,9 @@ pub fn change(tokens: &mut [u8], rest: &mut [u64], edit: Edit<'_>) -> Result<(),
     ensures { Changes (edit_by edit.entry rest.old) tokens.old rest.old tokens.new rest.new result }
 {
     let (kept, entries) = open_book(tokens, rest).ok_or(Refusal::BadOpening)?;
-    let replacement = edit.replacement(kept.paragraphs);
+    let replacement = edit.replacement(kept.counts.paragraphs);
     let Replacement { at, gone, .. } = replacement;
-    if at + gone > kept.paragraphs {
+    if at + gone > kept.counts.paragraphs {
         return Err(Refusal::NoParagraph(at as u32));
     }
     let before = Counts::of(&entries[..at]);

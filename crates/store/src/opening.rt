@@ -1,12 +1,12 @@
 // A book is opened: how much memory its limits ask for, and what it holds at first.
 ghost use Rattle.std.specs.Prelude.{◌≡◌};
-ghost use Rattle.store.specs.Opened.{all_within, limits_in_range, page_in_range, looks_in_range, limits_of, looks_of, tokens_asked, rest_asked, asking, packed_widths, header_of, Opens, InRangeGood, OpenedSound};
+ghost use Rattle.store.specs.Opened.{all_within, limits_in_range, page_in_range, looks_in_range, limits_of, tokens_asked, rest_asked, asking, Opens, InRangeGood, OpenedSound};
 
-use std::array;
-use wire::Refusal;
+use crate::header::{HEADER, header_of};
+use wire::{LETTERS, Refusal};
 
 // The most that a book may have. In range: 4,096 paragraphs, 65,536 tokens, 1,024 definitions, and 4,096 for a paragraph's bulk.
-#[derive(Clone, Copy)]
+#[derive(Clone, Copy, Debug, PartialEq, Eq)]
 pub struct Limits {
     pub paragraphs: u32,
     pub tokens: u32,
@@ -15,15 +15,22 @@ pub struct Limits {
 }
 
 // In range: widths of the letters 32 to 126 from 1 to 63, a line width from 1 to 1,000, and 1 to 255 rows to a page.
-#[derive(Clone, Copy)]
+#[derive(Clone, Copy, Debug, PartialEq, Eq)]
 pub struct Looks {
-    pub widths: [u8; 95],
+    pub widths: [u8; LETTERS],
     pub width: u32,
     pub rows: u32,
 }
 
+// What a book is opened with.
+#[derive(Clone, Copy, Debug, PartialEq, Eq)]
+pub struct Opening {
+    pub limits: Limits,
+    pub looks: Looks,
+}
+
 // How many bytes and numbers are to be lent, at the least.
-#[derive(Clone, Copy)]
+#[derive(Clone, Copy, Debug, Default, PartialEq, Eq)]
 pub struct Asked {
     pub tokens: usize,
     pub rest: usize,
@@ -53,42 +60,33 @@ impl Limits {
     }
 }
 
-// Of the looks, those that a header tells as they are: how wide lines are, and how many rows a page has.
-pub(crate) fn page_in_range(width: u32, rows: u32) -> bool
-    ensures { result ≡ page_in_range width rows }
-{
-    (1..=1000).contains(&width) && (1..=255).contains(&rows)
-}
-
-fn widths_in_range(widths: &[u8; 95]) -> bool
+fn widths_in_range(widths: &[u8; LETTERS]) -> bool
     ensures { result ≡ all_within 1 63 widths.now }
 {
     widths.iter().all(|w| (1..=63).contains(w))
 }
 
 impl Looks {
+    // Of the looks, those that a header tells as they are.
+    pub(crate) fn page_in_range(&self) -> bool
+        ensures { result ≡ page_in_range self.now.width self.now.rows }
+    {
+        (1..=1000).contains(&self.width) && (1..=255).contains(&self.rows)
+    }
+
     fn in_range(&self) -> bool
         ensures { result ≡ looks_in_range self.now }
     {
-        page_in_range(self.width, self.rows) && widths_in_range(&self.widths)
-    }
-
-    // Eight letters to a number, the first in the lowest byte. The letter 127, which no text has, is 1 wide.
-    fn packed_widths(&self) -> [u64; 12]
-        ensures { result ≡ packed_widths (looks_of self.now).wide }
-    {
-        let mut widths = [1; 96];
-        widths[..95].copy_from_slice(&self.widths);
-        let (eights, _) = widths.as_chunks::<8>();
-        array::from_fn(|k| u64::from_le_bytes(eights[k]))
+        self.page_in_range() && widths_in_range(&self.widths)
     }
 }
 
 impl Asked {
     // None where limits or looks are out of range.
-    pub fn of(limits: &Limits, looks: &Looks) -> Option<Asked>
-        ensures { result ≡ asking limits.now looks.now }
+    pub fn of(opening: &Opening) -> Option<Asked>
+        ensures { result ≡ asking opening.now.limits opening.now.looks }
     {
+        let Opening { limits, looks } = opening;
         let asked = Asked {
             tokens: limits.bytes_asked(),
             rest: limits.rest_asked(),
@@ -97,30 +95,11 @@ impl Asked {
     }
 }
 
-fn header_of(limits: &Limits, looks: &Looks) -> [u64; 64]
-    ensures { result ≡ header_of limits.now looks.now }
-{
-    let mut header = [0; 64];
-    header[0] = limits.paragraphs as u64;
-    header[1] = limits.tokens as u64;
-    header[2] = limits.definitions as u64;
-    header[3] = limits.bulk as u64;
-    header[10] = looks.width as u64;
-    header[11] = looks.rows as u64;
-    header[12..24].copy_from_slice(&looks.packed_widths());
-    header
-}
-
 // What is out of range is refused first, then too few bytes for tokens, then too few numbers; a refusal leaves both slices as they were.
-pub fn open(
-    tokens: &mut [u8],
-    rest: &mut [u64],
-    limits: &Limits,
-    looks: &Looks,
-) -> Result<(), Refusal>
-    ensures { Opens limits.now looks.now tokens.old rest.old tokens.new rest.new result }
+pub fn open(tokens: &mut [u8], rest: &mut [u64], opening: &Opening) -> Result<(), Refusal>
+    ensures { Opens opening.now.limits opening.now.looks tokens.old rest.old tokens.new rest.new result }
 {
-    let asked = Asked::of(limits, looks).ok_or(Refusal::BadOpening)?;
+    let asked = Asked::of(opening).ok_or(Refusal::BadOpening)?;
     if tokens.len() < asked.tokens {
         return Err(Refusal::ShortTokens);
     }
@@ -129,7 +108,7 @@ pub fn open(
     }
     tokens[..asked.tokens].fill(0);
     rest[..asked.rest].fill(0);
-    rest[..64].copy_from_slice(&header_of(limits, looks));
+    rest[..HEADER].copy_from_slice(&header_of(opening));
     Ok(())
 }
 

@@ -1,6 +1,7 @@
 // The paragraphs of a book, one after another.
 ghost use Rattle.std.specs.Prelude.{◌≡◌, ℕ, length, false, slice_get, MatchOption};
 ghost use Rattle.std.specs.Iterator.{item_count};
+ghost use Rattle.std.specs.Option.{option_map};
 ghost use Rattle.store.specs.Kept.{is_open};
 ghost use Rattle.store.specs.Changes.{paragraph_at};
 ghost use Rattle.store.specs.Paragraphs.{paragraphs_in, paragraphs_left, GivesParagraph};
@@ -39,10 +40,17 @@ impl<'t, 'e> Iterator for Paragraphs<'t, 'e> {
     ghost remaining = { item_count paragraphs_left };
 
     fn next(&mut self) -> Option<&'t [u8]> {
-        let (entry, entries) = self.entries.split_first()?;
-        let (paragraph, tokens) = self.tokens.split_at_checked(entry[0] as usize)?;
+        let ([bytes, ..], entries) = self.entries.split_first()?;
+        let (paragraph, tokens) = self.tokens.split_at_checked(*bytes as usize)?;
         self.tokens = tokens;
         self.entries = entries;
         Some(paragraph)
     }
+}
+
+// The token bytes of paragraph k, as a part of `tokens`; None where it is not there, or memory is no open book.
+pub fn paragraph<'a>(tokens: &'a [u8], rest: &[u64], k: u16) -> Option<&'a [u8]>
+    ensures { option_map (λ p. p.now) result ≡ paragraph_at tokens.now rest.now k }
+{
+    Paragraphs::of(tokens, rest)?.nth(k as usize)
 }

@@ -1,6 +1,8 @@
 // Elements of a lent slice that give way to others; what stands behind them moves up or down.
-ghost use Rattle.std.specs.Prelude.{◌≡◌, ◌+◌, ◌≤◌, max, length, replicate};
-ghost use Rattle.store.specs.Splices.{moved_up, moved_down, replaced};
+ghost use Rattle.std.specs.Prelude.{◌≡◌, ◌+◌, ◌-◌, ◌≤◌, length, replicate};
+ghost use Rattle.store.specs.Splices.{replaced, FitsSplice};
+
+use std::ops::Range;
 
 // `fill` asks of a type parameter that its clone can't fail, which `Copy` does not say.
 fn wipe<T: Copy>(xs: &mut [T], blank: T)
@@ -11,33 +13,15 @@ fn wipe<T: Copy>(xs: &mut [T], blank: T)
     }
 }
 
-// The `behind` elements from `from` on move up by `more`.
-fn move_up<T: Copy>(xs: &mut [T], from: usize, behind: usize, more: usize)
-    requires { from + behind + more ≤ length xs.old }
-    ensures { xs.new ≡ moved_up xs.old from behind more }
+// What is `gone` gives way to the new elements; those behind it, up to `end`, follow, and what is freed is blank.
+// No `T::default()`: the contract would have to speak of any value of which that type's law of defaults holds.
+pub(crate) fn splice<T: Copy>(xs: &mut [T], gone: Range<usize>, end: usize, new: &[T], blank: T)
+    requires { FitsSplice (length xs.old) gone.start gone.end end (length new.now) }
+    ensures { xs.new ≡ replaced blank xs.old gone.start (gone.end - gone.start) (end - gone.end) new.now }
 {
-    xs[from..from + behind + more].rotate_right(more);
-}
-
-// The `behind` elements that stand `less` behind `from` move down to it, and what they leave is blank.
-fn move_down<T: Copy>(xs: &mut [T], from: usize, less: usize, behind: usize, blank: T)
-    requires { from + less + behind ≤ length xs.old }
-    ensures { xs.new ≡ moved_down blank xs.old from less behind }
-{
-    xs[from..from + less + behind].rotate_left(less);
-    wipe(&mut xs[from + behind..from + behind + less], blank);
-}
-
-// From `at` on, `gone` elements give way to the new ones, and the `behind` elements behind them follow.
-pub fn splice<T: Copy>(xs: &mut [T], at: usize, gone: usize, behind: usize, new: &[T], blank: T)
-    requires { at + max gone (length new.now) + behind ≤ length xs.old }
-    ensures { xs.new ≡ replaced blank xs.old at gone behind new.now }
-{
-    let come = new.len();
-    if come > gone {
-        move_up(xs, at + gone, behind, come - gone);
-    } else {
-        move_down(xs, at + come, gone - come, behind, blank);
-    }
-    xs[at..at + come].copy_from_slice(new);
+    let behind = gone.start + new.len();
+    let left = behind + (end - gone.end);
+    xs.copy_within(gone.end..end, behind);
+    wipe(&mut xs[left..left.max(end)], blank);
+    xs[gone.start..behind].copy_from_slice(new);
 }

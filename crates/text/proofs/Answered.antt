@@ -5,16 +5,12 @@ use Rattle.std.proofs.lemmas.List.{take_at, drop_at}
 use Rattle.meaning.specs.Lines.{Placed}
 use Rattle.meaning.specs.Calls.{Answer, done, refused, rows, numbers}
 use Rattle.wire.specs.Bytes.{four, letters_bytes, row_bytes, rows_bytes, answer_bytes}
+use Rattle.wire.proofs.Answered.{length_letters_bytes}
 use Rattle.wire.proofs.Fields.{two_at_two, four_at_four}
 use Rattle.text.specs.Laws.{AnswersShown}
 use Rattle.text.specs.Rows.{letters_of, row_first, row_then, rows_in}
 use Rattle.text.specs.Shown.{answer_in, shown_by}
 use Rattle.text.proofs.RowParts.{row_whole}
-
-length_letters : (ps : List Placed) → length (letters_bytes ps) ≡ 5 * length ps
-unfolding letters_bytes
-length_letters [] = refl
-length_letters (p ∷ ps) = omega (arith, length_letters ps)
 
 letters_back : (ps : List Placed) → letters_of (letters_bytes ps) ≡ ps
 unfolding letters_bytes letters_of
@@ -23,7 +19,7 @@ letters_back (p ∷ ps) = λ i. record { at = four_at_four p.at [] i; what = p.w
 
 row_back : (ps : List Placed) (bs : List ℕ) → row_first (row_bytes ps ++ bs) ≡ Some (letters_bytes ps, bs)
 row_back ps bs =
-    let long = length_letters ps in
+    let long = length_letters_bytes ps in
     row_whole (row_bytes ps ++ bs) (5 * length ps) (ap (λ n. 5 * n) (sym (two_at_two (length ps) (letters_bytes ps ++ bs)))) (omega (arith, length-append (letters_bytes ps) bs))
     ∙ (λ i. Some (take_at (letters_bytes ps) bs (5 * length ps) long i, drop_at (letters_bytes ps) bs (5 * length ps) long i))
 

@@ -1,12 +1,11 @@
 mod Answered
 mod Fields
+mod FiveByFive
 mod Formed
 mod Giving
 mod Hexes
-mod Letters
 mod Literals
 mod Mapped
-mod Numbers
 mod Pieces
 mod Printed
 mod RowParts

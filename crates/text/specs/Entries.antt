@@ -2,8 +2,8 @@
 --   keyword_of   which keyword a word is, if it is one
 --   limits_of    what four words say as numbers, and no fifth
 --   entry_by     what the words behind a keyword say
---   entry_of     what the bytes of a line say
-use Rattle.std.specs.Prelude.{ℕ, cond, List, [], ◌∷◌, Ok, Err, codes, Result, ◌==◌}
+--   entry_of     what the bytes of a line say, if they say anything
+use Rattle.std.specs.Prelude.{ℕ, cond, List, [], ◌∷◌, Some, None, Ok, Err, codes, Option, Result, ◌==◌}
 use Rattle.std.specs.Str.{bytes_eq}
 use Rattle.store.specs.declared.opening.Limits.{Limits}
 use Rattle.notation.specs.Steps.{then}
@@ -35,6 +35,6 @@ entry_by keyword.Width ws = then (last_number 4294967296 ws) (λ n. Ok (entry.Wi
 entry_by keyword.Rows ws = then (last_number 4294967296 ws) (λ n. Ok (entry.Rows n))
 
 -- 35 begins a remark
-abbrev pub entry_of : List ℕ → Result Entry Fault
-entry_of [] = Ok entry.Nothing
-entry_of (b ∷ bs) = cond (b == 35) (Ok entry.Nothing) (then (keyword_of (first_word (b ∷ bs))) (λ k. entry_by k (words_behind (b ∷ bs))))
+abbrev pub entry_of : List ℕ → Result (Option Entry) Fault
+entry_of [] = Ok None
+entry_of (b ∷ bs) = cond (b == 35) (Ok None) (then (keyword_of (first_word (b ∷ bs))) (λ k. then (entry_by k (words_behind (b ∷ bs))) (λ e. Ok (Some e))))

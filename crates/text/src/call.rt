@@ -40,7 +40,7 @@ impl Question {
 }
 
 // What a line begins with that is a call.
-#[derive(Clone, Copy)]
+#[derive(Clone, Copy, Debug, PartialEq, Eq)]
 pub enum Verb {
     Put,
     Define,

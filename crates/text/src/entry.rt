@@ -7,14 +7,13 @@ use crate::fault::Fault;
 use crate::widths::read_widths;
 use crate::word::{Words, first_word};
 use store::Limits;
+use wire::LETTERS;
 
-#[derive(Clone, Copy)]
+#[derive(Clone, Copy, Debug, PartialEq, Eq)]
 pub enum Entry {
-    // an empty line, or a remark
-    Nothing,
     Limits(Limits),
     // of the letters 32 to 126
-    Widths([u8; 95]),
+    Widths([u8; LETTERS]),
     Width(u32),
     Rows(u32),
 }
@@ -56,17 +55,19 @@ fn read_limits(text: &[u8]) -> Result<Limits, Fault>
     })
 }
 
-pub fn read_entry(line: &[u8]) -> Result<Entry, Fault>
+// None of an empty line, and of a remark.
+pub fn read_entry(line: &[u8]) -> Result<Option<Entry>, Fault>
     ensures { result ≡ entry_of line.now }
 {
     if let [] | [b'#', ..] = line {
-        return Ok(Entry::Nothing);
+        return Ok(None);
     }
     let (word, rest) = first_word(line);
-    match Keyword::try_from(word)? {
-        Keyword::Limits => Ok(Entry::Limits(read_limits(rest)?)),
-        Keyword::Widths => Ok(Entry::Widths(read_widths(rest)?)),
-        Keyword::Width => Ok(Entry::Width(Words(rest).last_number()?)),
-        Keyword::Rows => Ok(Entry::Rows(Words(rest).last_number()?)),
-    }
+    let entry = match Keyword::try_from(word)? {
+        Keyword::Limits => Entry::Limits(read_limits(rest)?),
+        Keyword::Widths => Entry::Widths(read_widths(rest)?),
+        Keyword::Width => Entry::Width(Words(rest).last_number()?),
+        Keyword::Rows => Entry::Rows(Words(rest).last_number()?),
+    };
+    Ok(Some(entry))
 }

@@ -19,4 +19,5 @@ pub use fault::Fault;
 pub use laws::{answers_shown, lines_formed};
 pub use outcome::Outcome;
 pub use reader::{Reader, Step};
+pub use rows::{Letter, Letters};
 pub use shown::Shown;

@@ -7,7 +7,7 @@ use std::fmt;
 use wire::Refusal;
 
 // Of a call that was refused.
-#[derive(Clone, Copy)]
+#[derive(Clone, Copy, Debug, PartialEq, Eq)]
 pub struct Refused {
     pub number: u8,
     pub place: u32,
@@ -34,7 +34,7 @@ impl fmt::Display for Refused {
 }
 
 // Of a call that is answered with nothing more than that it is done.
-#[derive(Clone, Copy)]
+#[derive(Clone, Copy, Debug, PartialEq, Eq)]
 pub struct Outcome(pub Result<(), Refusal>);
 
 impl fmt::Display for Outcome {

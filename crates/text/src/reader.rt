@@ -1,21 +1,22 @@
 // How far the lines of a file have come. Four lines open a book, in their order, and a file may hold several books.
 ghost use Rattle.std.specs.Prelude.{◌≡◌};
+ghost use Rattle.std.specs.Option.{option_map};
 ghost use Rattle.text.specs.declared.reader.State.TheVariants.{Start, Refused};
 ghost use Rattle.text.specs.Calls.{call_of};
-ghost use Rattle.text.specs.Reading.{begins_book, passed_over, entered, called, both_said, Says, step_of, state_after};
+ghost use Rattle.text.specs.Reading.{begins_book, passed_over, entered, called, said, both_said, Says, step_of, state_after};
 
 use crate::call::{Question, Verb, read_call};
 use crate::entry::{Entry, read_entry};
 use crate::fault::Fault;
 use crate::word::first_word;
 use std::alloc::Global;
-use store::{Limits, Looks};
+use store::{Limits, Looks, Opening};
+use wire::LETTERS;
 
 // What a line asks for.
 #[derive(Drop)]
 pub enum Step {
-    Nothing,
-    Open(Limits, Looks),
+    Open(Opening),
     // the bytes of a call, and what is asked by it
     Call(Question, Vec<u8>),
 }
@@ -25,8 +26,8 @@ pub enum Step {
 enum State {
     Start,
     AfterLimits(Limits),
-    AfterWidths(Limits, [u8; 95]),
-    AfterWidth(Limits, [u8; 95], u32),
+    AfterWidths(Limits, [u8; LETTERS]),
+    AfterWidth(Limits, [u8; LETTERS], u32),
     Opened,
     // the opening was refused, so the book's other lines don't count
     Refused,
@@ -46,37 +47,37 @@ impl State {
         matches!(self, State::Refused) && !begins_book(line)
     }
 
-    fn enter(self, entry: Entry) -> Result<(State, Step), Fault>
+    fn enter(self, entry: Entry) -> Result<(State, Option<Step>), Fault>
         ensures { both_said result ≡ entered self entry }
     {
-        let state = match (self, entry) {
-            (state, Entry::Nothing) => state,
-            (State::Start | State::Opened | State::Refused, Entry::Limits(limits)) => {
+        let state = match (entry, self) {
+            (Entry::Limits(limits), State::Start | State::Opened | State::Refused) => {
                 State::AfterLimits(limits)
             }
-            (State::AfterLimits(limits), Entry::Widths(widths)) => {
+            (Entry::Widths(widths), State::AfterLimits(limits)) => {
                 State::AfterWidths(limits, widths)
             }
-            (State::AfterWidths(limits, widths), Entry::Width(width)) => {
+            (Entry::Width(width), State::AfterWidths(limits, widths)) => {
                 State::AfterWidth(limits, widths, width)
             }
-            (State::AfterWidth(limits, widths, width), Entry::Rows(rows)) => {
+            (Entry::Rows(rows), State::AfterWidth(limits, widths, width)) => {
                 let looks = Looks {
                     widths,
                     width,
                     rows,
                 };
-                return Ok((State::Opened, Step::Open(limits, looks)));
+                let step = Step::Open(Opening { limits, looks });
+                return Ok((State::Opened, Some(step)));
             }
-            (State::Opened, _) => return Err(Fault::Unknown),
+            (_, State::Opened) => return Err(Fault::Unknown),
             _ => return Err(Fault::OutOfPlace),
         };
-        Ok((state, Step::Nothing))
+        Ok((state, None))
     }
 
     // Only an opened book is asked anything.
     fn call(&self, heap: Global, verb: Verb, text: &[u8]) -> Result<Step, Fault>
-        ensures { Says result (called self.now (call_of verb text.now)) }
+        ensures { Says said result (called self.now (call_of verb text.now)) }
     {
         if !matches!(self, State::Opened) {
             return Err(Fault::OutOfPlace);
@@ -101,18 +102,20 @@ impl Reader {
     }
 
     // A line at fault, and one for which there is no memory, leaves the reader as it was.
-    pub fn read(&mut self, heap: Global, line: &[u8]) -> Result<Step, Fault>
-        ensures value { Says result (step_of self.old.state line.now) }
+    pub fn read(&mut self, heap: Global, line: &[u8]) -> Result<Option<Step>, Fault>
+        ensures value { Says (option_map said) result (step_of self.old.state line.now) }
         ensures after { self.new.state ≡ state_after self.old.state line.now }
     {
         if self.state.passes_over(line) {
-            return Ok(Step::Nothing);
+            return Ok(None);
         }
         let (word, rest) = first_word(line);
         if let Some(verb) = Verb::named(word) {
-            return self.state.call(heap, verb, rest);
+            return Ok(Some(self.state.call(heap, verb, rest)?));
         }
-        let entry = read_entry(line)?;
+        let Some(entry) = read_entry(line)? else {
+            return Ok(None);
+        };
         let (state, step) = self.state.enter(entry)?;
         self.state = state;
         Ok(step)

@@ -5,12 +5,13 @@ ghost use Rattle.std.specs.Iterator.{YieldsFirstBy, item_count, at_most};
 ghost use Rattle.text.specs.Rows.{seen, letter_text, row_text, rows_text, letters_of, row_first, rows_in, rows_of, placed};
 
 use std::fmt;
+use wire::LETTER_BYTES;
 
 // A letter and its place.
-#[derive(Clone, Copy)]
-struct Letter {
-    what: u8,
-    at: u32,
+#[derive(Clone, Copy, Debug, PartialEq, Eq)]
+pub struct Letter {
+    pub what: u8,
+    pub at: u32,
 }
 
 // A letter is shown as it is, and any other byte as a question mark.
@@ -33,7 +34,7 @@ impl fmt::Display for Letter {
 
 // The letters of a row, as bytes.
 #[derive(Drop)]
-struct Letters<'a>(&'a [u8]);
+pub struct Letters<'a>(pub &'a [u8]);
 
 impl Iterator for Letters<'_> {
     type Item = Letter;
@@ -42,7 +43,7 @@ impl Iterator for Letters<'_> {
 
     ghost remaining = { item_count (λ s. letters_of s.0.now) };
 
-    #[tactic(auto, unfolding(crate::specs::Rows::letters_of), using(crate::proofs::Letters::letters_none, crate::proofs::Letters::letters_more))]
+    #[tactic(auto, unfolding(crate::specs::Rows::letters_of), using(crate::proofs::FiveByFive::letters_none, crate::proofs::FiveByFive::letters_more))]
     fn next(&mut self) -> Option<Letter> {
         let (what, rest) = self.0.split_first()?;
         let (at, rest) = rest.split_first_chunk()?;
@@ -84,14 +85,14 @@ impl<'a> Iterator for EachRow<'a> {
     #[tactic(auto, unfolding(crate::specs::Rows::row_first))]
     fn next(&mut self) -> Option<Letters<'a>> {
         let (len, rest) = self.0.split_first_chunk()?;
-        let len = 5 * usize::from(u16::from_be_bytes(*len));
+        let len = LETTER_BYTES * usize::from(u16::from_be_bytes(*len));
         let (letters, rest) = rest.split_at_checked(len)?;
         self.0 = rest;
         Some(Letters(letters))
     }
 }
 
-// Just so many rows.
+// Just so many rows. The count is read of the answer and shown as it is; with it in the slice, showing would have to split it off, and have a case for no bytes.
 #[derive(Clone, Copy)]
 pub struct Rows<'a> {
     pub count: u8,

@@ -24,6 +24,7 @@ fn hear_done(bytes: &[u8]) -> Option<Heard<'_>>
     bytes.is_empty().then_some(Heard::Done)
 }
 
+// `exports` takes the same bytes apart to tell C their number; one reader in `wire` for both would have a contract longer than either.
 fn hear_refused(bytes: &[u8]) -> Option<Heard<'_>>
     ensures { heard result ≡ refused_of bytes.now }
 {
@@ -58,7 +59,7 @@ fn hear(bytes: &[u8]) -> Option<Heard<'_>>
 }
 
 // The bytes of an answer to a question, as text.
-#[derive(Clone, Copy)]
+#[derive(Clone, Copy, Debug, PartialEq, Eq)]
 pub struct Shown<'a> {
     pub question: Question,
     pub bytes: &'a [u8],

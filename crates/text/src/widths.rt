@@ -5,6 +5,7 @@ ghost use Rattle.text.specs.Words.{words};
 
 use crate::fault::Fault;
 use crate::word::Words;
+use wire::LETTERS;
 
 // Whose width it is.
 #[derive(Clone, Copy)]
@@ -32,7 +33,7 @@ impl TryFrom<&[u8]> for Key {
 // What the pairs so far give.
 #[derive(Drop)]
 struct Table {
-    letters: [Option<u8>; 95],
+    letters: [Option<u8>; LETTERS],
     others: u8,
 }
 
@@ -41,7 +42,7 @@ impl Table {
         ensures { result ≡ blank }
     {
         Table {
-            letters: [None; 95],
+            letters: [None; LETTERS],
             others: 0,
         }
     }
@@ -57,14 +58,14 @@ impl Table {
         }
     }
 
-    fn widths(&self) -> [u8; 95]
+    fn widths(&self) -> [u8; LETTERS]
         ensures { result ≡ filled self.now }
     {
         self.letters.map(|width| width.unwrap_or(self.others))
     }
 }
 
-pub fn read_widths(text: &[u8]) -> Result<[u8; 95], Fault>
+pub fn read_widths(text: &[u8]) -> Result<[u8; LETTERS], Fault>
     ensures { result ≡ widths_of (words text.now) }
 {
     let mut table = Table::new();

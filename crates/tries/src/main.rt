@@ -65,6 +65,7 @@ impl Paragraph<'_> {
         Way { cost, ends }
     }
 
+    // The slots are filled by place: of arrays that a closure makes, flattened into a row, the proof that each width is small didn't close.
     fn found(self) -> Way {
         let words = self.words.len();
         let mut slots = [0; 8 * SLOT];

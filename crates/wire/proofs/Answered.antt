@@ -1,10 +1,15 @@
--- Answers as bytes: written in one way only.
-use Rattle.std.proofs.Common.{◌≡◌, ℕ, List, [], ◌∷◌, ◌++◌, length, get_or, drop, refl, ap, ap₂, arith}
+-- Answers as bytes: how long letters are, and that they are written in one way only.
+use Rattle.std.proofs.Common.{◌≡◌, ℕ, ◌*◌, List, [], ◌∷◌, ◌++◌, length, get_or, drop, refl, ap, ap₂, arith}
 use Rattle.meaning.specs.Lines.{Placed}
 use Rattle.meaning.specs.Calls.{done, refused, rows, numbers}
 use Rattle.wire.specs.Bytes.{four, letters_bytes, row_bytes, rows_bytes, answer_bytes}
 use Rattle.wire.specs.Laws.{WrittenOnce}
 use Rattle.wire.proofs.Fields.{two_and_rest, four_and_rest}
+
+pub length_letters_bytes : (ps : List Placed) → length (letters_bytes ps) ≡ 5 * length ps
+unfolding letters_bytes
+length_letters_bytes [] = refl
+length_letters_bytes (p ∷ ps) = omega (arith, length_letters_bytes ps)
 
 same_placed : (p q : Placed) → p.at ≡ q.at → p.what ≡ q.what → p ≡ q
 same_placed p q at_same what_same = λ i. record { at = at_same i; what = what_same i }

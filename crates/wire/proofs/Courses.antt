@@ -4,8 +4,8 @@ use mathlib.Core.Bool.{and-true}
 use Rattle.meaning.specs.Text.{Token, letter, space, mark, page_of, note, command, given, Tokens, none, more, written, all_written}
 use Rattle.meaning.specs.Promise.{in_bytes, in_byte, all_below}
 use Rattle.meaning.proofs.Below.{all_below_append}
-use Rattle.wire.specs.Bytes.{Parsed, whole, broken, before, closed, token_first, parsed}
-use Rattle.meaning.proofs.Below.{all_below_both}
+use Rattle.wire.specs.Bytes.{Parsed, whole, broken, before, closed, token_first, parsed, parsed_tokens, tokens_of}
+use Rattle.meaning.proofs.Below.{all_below_parts, all_below_both}
 use Rattle.wire.proofs.Parses.{parsed_left, parsed_left_before, parsed_none, parsed_end, parsed_unknown, parsed_step, parsed_note, parsed_command, parsed_written, Ended}
 
 -- no end byte is left for what a note or a command holds
@@ -228,3 +228,60 @@ course_reach (token_then t bs p c) = reach_before t bs p (course_reach c)
 
 pub parsed_reach : (bs : List ℕ) (p : Parsed) → parsed bs ≡ p → Reach bs p
 parsed_reach bs p e = course_reach (rw e at (course_of bs))
+
+-- and its course says what it is read as
+unclosed_closed : (make : Tokens → Token) (p : Parsed) → Unclosed p → closed make parsed p ≡ broken none (parsed_left p)
+unclosed_closed make (whole ts left) u = rw u refl
+unclosed_closed make (broken ts left) u = refl
+
+pub parsed_course : {bs : List ℕ} {p : Parsed} → Course bs p → parsed bs ≡ p
+unfolding token_first
+parsed_course over = parsed_none
+parsed_course (end_first bs) = parsed_end bs
+parsed_course (unknown_first x bs h) = parsed_unknown x bs h
+parsed_course letter_alone = parsed_step 0 []
+parsed_course mark_alone = parsed_step 2 []
+parsed_course page_of_alone = parsed_step 3 []
+parsed_course command_alone = parsed_step 5 []
+parsed_course (note_open bs p u c) = parsed_note bs ∙ ap (closed note parsed) (parsed_course c) ∙ unclosed_closed note p u
+parsed_course (command_open k bs p u c) = parsed_command k bs ∙ ap (closed (command k) parsed) (parsed_course c) ∙ unclosed_closed (command k) p u
+parsed_course (token_then t bs p c) = parsed_written t bs ∙ ap (before t) (parsed_course c)
+
+-- the tokens stand first, and behind them is no other
+abbrev pub bare : Parsed → Parsed
+bare (whole ts left) = whole none left
+bare (broken ts left) = broken none left
+
+pub record TokensFirst (bs : List ℕ) (p : Parsed) : Type 0 where
+  pub rest : List ℕ
+  pub form : bs ≡ all_written (parsed_tokens p) ++ rest
+  pub no_more : parsed rest ≡ bare p
+
+tokens_first_none : {bs : List ℕ} {p : Parsed} → Course bs p → bare p ≡ p → parsed_tokens p ≡ none → TokensFirst bs p
+tokens_first_none {bs} {p} c e q = record { rest = bs; form = rw q refl; no_more = parsed_course c ∙ sym e }
+
+tokens_first_before : (t : Token) (bs : List ℕ) (p : Parsed) → TokensFirst bs p → TokensFirst (written t ++ bs) (before t p)
+tokens_first_before t bs (whole ts left) f = record { rest = f.rest; form = rw (append_assoc, f.form) refl; no_more = f.no_more }
+tokens_first_before t bs (broken ts left) f = record { rest = f.rest; form = rw (append_assoc, f.form) refl; no_more = f.no_more }
+
+course_tokens : {bs : List ℕ} {p : Parsed} → Course bs p → TokensFirst bs p
+course_tokens over = tokens_first_none over refl refl
+course_tokens (end_first bs) = tokens_first_none (end_first bs) refl refl
+course_tokens (unknown_first x bs h) = tokens_first_none (unknown_first x bs h) refl refl
+course_tokens letter_alone = tokens_first_none letter_alone refl refl
+course_tokens mark_alone = tokens_first_none mark_alone refl refl
+course_tokens page_of_alone = tokens_first_none page_of_alone refl refl
+course_tokens command_alone = tokens_first_none command_alone refl refl
+course_tokens (note_open bs p u c) = tokens_first_none (note_open bs p u c) refl refl
+course_tokens (command_open k bs p u c) = tokens_first_none (command_open k bs p u c) refl refl
+course_tokens (token_then t bs p c) = tokens_first_before t bs p (course_tokens c)
+
+pub parsed_tokens_first : (bs : List ℕ) (p : Parsed) → parsed bs ≡ p → TokensFirst bs p
+parsed_tokens_first bs p e = course_tokens (rw e at (course_of bs))
+
+-- and so they are in bytes where the row is
+pub tokens_in_bytes : (bs : List ℕ) → all_below 256 bs ≡ true → in_bytes (tokens_of bs) ≡ true
+tokens_in_bytes bs h =
+    let f : TokensFirst bs (parsed bs) = parsed_tokens_first bs (parsed bs) refl in
+    sym (all_below_all_written (tokens_of bs))
+    ∙ (all_below_parts 256 (all_written (tokens_of bs)) f.rest (ap (all_below 256) (sym f.form) ∙ h)).0

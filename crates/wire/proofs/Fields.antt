@@ -3,7 +3,7 @@ use Rattle.std.proofs.Common.{◌≡◌, ℕ, ◌+◌, ◌*◌, ◌/◌, ◌%◌
 use Rattle.std.proofs.lemmas.List.{drop_more}
 use Rattle.meaning.specs.Promise.{all_below}
 use Rattle.wire.specs.Bytes.{two, four, two_at, four_at}
-use Rattle.meaning.proofs.Below.{getD_below}
+use Rattle.meaning.proofs.Below.{getD_below, all_below_more, all_below_none}
 
 pub two_at_two : (n : ℕ) (bs : List ℕ) → two_at (two n ++ bs) 0 ≡ n
 two_at_two n bs = omega arith
@@ -57,3 +57,11 @@ drop_four bs i t h =
     let below : (j : ℕ) → get_or bs j 0 < 256 = λ j. getD_below 256 bs j 0 (omega arith) t in
     drop_pair bs i (omega arith)
     ∙ rw others (ap (λ cs. cs ++ drop (i + 4) bs) (sym (four_of (get_or bs i 0) (get_or bs (i + 1) 0) (get_or bs (i + 2) 0) (get_or bs (i + 3) 0) (below (i + 1)) (below (i + 2)) (below (i + 3)))))
+
+-- a number that fits is written in bytes
+pub two_below : (n : ℕ) → n < 65536 → all_below 256 (two n) ≡ true
+two_below n h = all_below_more 256 _ _ (omega arith) (all_below_more 256 _ _ (omega arith) (all_below_none 256))
+
+pub four_below : (n : ℕ) → n < 4294967296 → all_below 256 (four n) ≡ true
+four_below n h =
+    all_below_more 256 _ _ (omega arith) (all_below_more 256 _ _ (omega arith) (all_below_more 256 _ _ (omega arith) (all_below_more 256 _ _ (omega arith) (all_below_none 256))))

@@ -1,6 +1,6 @@
 -- The first token of bytes, by its form.
 use Rattle.std.proofs.Common.{◌≡◌, ℕ, suc, ◌+◌, ◌-◌, ◌<◌, List, [], ◌∷◌, ◌++◌, length, take, drop, Some, None, sym, refl, ap, ◌∙◌, ap₂, subst₂, arith, Bor}
-use Rattle.std.proofs.lemmas.List.{append_assoc, length-append, take_rest, take_at, drop_at, drop-drop}
+use Rattle.std.proofs.lemmas.List.{append_assoc, length-append, take_at, drop_at, drop-drop}
 use Rattle.meaning.specs.Text.{none, written, all_written}
 use Rattle.meaning.specs.Text
 use Rattle.wire.specs.Bytes.{Parsed, whole, broken, closed, parsed, parsed_tokens, tokens_of}
@@ -69,9 +69,6 @@ enclosed_none bs make e = go (parsed bs) e
     go (whole ts []) f = refl
     go (whole ts (x ∷ left)) f = absurd (cc)
     go (broken ts left) f = refl
-
-pub enclosed_parts : (bs : List ℕ) (n : ℕ) → Close n ≡ extent_of bs → Some (take n bs, take (length bs - (n + 1)) (drop (n + 1) bs)) ≡ enclosed_in bs
-enclosed_parts bs n e = ap (λ r. Some (take n bs, r)) (take_rest bs (n + 1)) ∙ ap (enclosed_by bs) e
 
 -- bytes that begin as no token does
 pub none_first : (bs : List ℕ) (x : ℕ) (rest : List ℕ) → bs ≡ x ∷ rest → 7 < x → tokens_of bs ≡ none

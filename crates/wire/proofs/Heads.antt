@@ -41,17 +41,20 @@ reading_kind Kinds.WhereIs fs = refl
 reading_kind Kinds.HowMany fs = refl
 reading_kind Kinds.PutIn fs = refl
 
-module _ (kind : CallKind) (fs : List ℕ) where
-  stopped : (stop : Unreadable) (r : Result Call Unreadable) → IsErrAnd r (λ e. e ≡ stop) → reading_of_kind kind fs ≡ stops stop.at → Reads (call_byte kind ∷ fs) r
+module _ {kind known : CallKind} (is : kind ≡ known) (fs : List ℕ) where
+  reads_as : reading (call_byte kind ∷ fs) ≡ reading_of_kind known fs
+  reads_as = reading_kind kind fs ∙ ap (λ k. reading_of_kind k fs) is
+
+  stopped : (stop : Unreadable) (r : Result Call Unreadable) → IsErrAnd r (λ e. e ≡ stop) → reading_of_kind known fs ≡ stops stop.at → Reads (call_byte kind ∷ fs) r
   stopped stop r so e =
       let p = err_from_is_err_and r so in
-      rw (p.1, p.2) (record { value = reading_kind kind fs ∙ e; part = tt })
+      rw (p.1, p.2) (record { value = reads_as ∙ e; part = tt })
 
   -- calls of a fixed length
   pub fixed_stops :
-      (n : ℕ) (stop : Unreadable) (c : Calls.Call) (r : Result Call Unreadable) → reading_of_kind kind fs ≡ exactly n fs c → (length fs ≡ n → ⊥) × (stop.at ≡ 1 + min (length fs) n) →
+      (n : ℕ) {stop : Unreadable} (c : Calls.Call) {r : Result Call Unreadable} → reading_of_kind known fs ≡ exactly n fs c → (length fs ≡ n → ⊥) × (stop.at ≡ 1 + min (length fs) n) →
       IsErrAnd r (λ e. e ≡ stop) → Reads (call_byte kind ∷ fs) r
-  fixed_stops n stop c r e at so = stopped stop r so (e ∙ by_length (cases_order (length fs) n))
+  fixed_stops n {stop} c {r} e at so = stopped stop r so (e ∙ by_length (cases_order (length fs) n))
     where
       by_length : (length fs ≡ n) ⊎ ((length fs < n) ⊎ (n < length fs)) → exactly n fs c ≡ stops stop.at
       by_length (inl same) = absurd (at.0 same)
@@ -59,19 +62,19 @@ module _ (kind : CallKind) (fs : List ℕ) where
       by_length (inr (inr more)) = exactly_longer n fs c more ∙ ap stops (omega arith)
 
   pub fixed_reads :
-      (n : ℕ) (c : Calls.Call) (call : Call) → reading_of_kind kind fs ≡ exactly n fs c → length fs ≡ n → c ≡ call_of call → WholeTokens call → Reads (call_byte kind ∷ fs) (Ok call)
-  fixed_reads n c call e long same so_whole = record { value = reading_kind kind fs ∙ (e ∙ (exactly_of n fs c long ∙ ap is_call same)); part = so_whole }
+      (n : ℕ) (c : Calls.Call) (call : Call) → reading_of_kind known fs ≡ exactly n fs c → length fs ≡ n → c ≡ call_of call → WholeTokens call → Reads (call_byte kind ∷ fs) (Ok call)
+  fixed_reads n c call e long same so_whole = record { value = reads_as ∙ (e ∙ (exactly_of n fs c long ∙ ap is_call same)); part = so_whole }
 
   -- calls with tokens
   pub tokens_stops :
-      (make : ℕ → Tokens → Calls.Call) (stop : Unreadable) (r : Result Call Unreadable) → reading_of_kind kind fs ≡ with_tokens make fs → ReadsTokens fs (Err stop) →
+      (make : ℕ → Tokens → Calls.Call) {stop : Unreadable} {r : Result Call Unreadable} → reading_of_kind known fs ≡ with_tokens make fs → ReadsTokens fs (Err stop) →
       IsErrAnd r (λ e. e ≡ stop) → Reads (call_byte kind ∷ fs) r
-  tokens_stops make stop r e t so = stopped stop r so (e ∙ t.value make)
+  tokens_stops make {stop} {r} e t so = stopped stop r so (e ∙ t.value make)
 
   pub tokens_reads :
-      (make : ℕ → Tokens → Calls.Call) (n : ℕ) (part : Bor (List ℕ)) (call : Call) → reading_of_kind kind fs ≡ with_tokens make fs → ReadsTokens fs (Ok (n, part)) →
+      (make : ℕ → Tokens → Calls.Call) {n : ℕ} {part : Bor (List ℕ)} (call : Call) → reading_of_kind known fs ≡ with_tokens make fs → ReadsTokens fs (Ok (n, part)) →
       make n (tokens_of part.now) ≡ call_of call → (Whole part → WholeTokens call) → Reads (call_byte kind ∷ fs) (Ok call)
-  tokens_reads make n part call e t same so_whole = record { value = reading_kind kind fs ∙ (e ∙ (t.value make ∙ ap is_call same)); part = so_whole t.part }
+  tokens_reads make {n} {part} call e t same so_whole = record { value = reads_as ∙ (e ∙ (t.value make ∙ ap is_call same)); part = so_whole t.part }
 
 -- bytes that begin no call
 pub stops_first : (bs : List ℕ) (stop : Unreadable) (r : Result Call Unreadable) → reading bs ≡ stops 0 → stop.at ≡ 0 → IsErrAnd r (λ e. e ≡ stop) → Reads bs r

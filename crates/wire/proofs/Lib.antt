@@ -8,3 +8,4 @@ pub mod Firsts
 pub mod Heads
 pub mod Sizes
 pub mod Overs
+pub mod Chunks

@@ -1,10 +1,13 @@
-// Answers as bytes: each is written from the start of the part of the lent bytes that it is given.
+// Answers as bytes: one that is no rows is written from the start of the lent bytes, and what rows are made of is given part by part.
 ghost use Rattle.std.specs.Prelude.{◌≡◌, ◌≤◌, [], ◌∷◌, length};
 ghost use Rattle.wire.specs.Bytes.{two, four, over};
 ghost use Rattle.wire.specs.Answers.{answer_form, outcome};
 
 use crate::kind::AnswerKind;
 use crate::refusal::Refusal;
+
+// A letter with its place takes so many bytes of an answer.
+pub const LETTER_BYTES: usize = 5;
 
 // Rows of letters are not here: they are written one by one as they are set.
 #[derive(Clone, Copy, Debug, PartialEq, Eq)]
@@ -25,13 +28,6 @@ impl From<Result<(), Refusal>> for Answer {
     }
 }
 
-fn write_four(out: &mut [u8], n: u32)
-    requires { 4 ≤ length out.old }
-    ensures { out.new ≡ over (four n) out.old }
-{
-    out[..4].copy_from_slice(&n.to_be_bytes());
-}
-
 // How many bytes were written.
 #[tactic(auto, unfolding(crate::specs::Bytes::answer_bytes))]
 pub fn write_answer(out: &mut [u8], answer: Answer) -> usize
@@ -47,39 +43,35 @@ pub fn write_answer(out: &mut [u8], answer: Answer) -> usize
         Answer::Refused(why) => {
             out[0] = u8::from(AnswerKind::Refused);
             out[1] = why.number();
-            write_four(&mut out[2..], why.place());
+            out[2..6].copy_from_slice(&why.place().to_be_bytes());
             6
         }
         Answer::Numbers(a, b) => {
             out[0] = u8::from(AnswerKind::Numbers);
-            write_four(&mut out[1..], a);
-            write_four(&mut out[5..], b);
+            out[1..5].copy_from_slice(&a.to_be_bytes());
+            out[5..9].copy_from_slice(&b.to_be_bytes());
             9
         }
     }
 }
 
 // What rows begin with: how many they are.
-pub fn write_rows(out: &mut [u8], count: u8)
-    requires { 2 ≤ length out.old }
-    ensures { out.new ≡ over (2 ∷ (count ∷ [])) out.old }
+pub fn rows_start(count: u8) -> [u8; 2]
+    ensures { result ≡ 2 ∷ (count ∷ []) }
 {
-    out[0] = u8::from(AnswerKind::Rows);
-    out[1] = count;
+    [u8::from(AnswerKind::Rows), count]
 }
 
 // What a row begins with: how many letters it has.
-pub fn write_row(out: &mut [u8], letters: u16)
-    requires { 2 ≤ length out.old }
-    ensures { out.new ≡ over (two letters) out.old }
+pub fn row_start(letters: u16) -> [u8; 2]
+    ensures { result ≡ two letters }
 {
-    out[..2].copy_from_slice(&letters.to_be_bytes());
+    letters.to_be_bytes()
 }
 
-pub fn write_letter(out: &mut [u8], letter: u8, place: u32)
-    requires { 5 ≤ length out.old }
-    ensures { out.new ≡ over (letter ∷ four place) out.old }
+pub fn letter_bytes(letter: u8, place: u32) -> [u8; LETTER_BYTES]
+    ensures { result ≡ letter ∷ four place }
 {
-    out[0] = letter;
-    write_four(&mut out[1..], place);
+    let [p0, p1, p2, p3] = place.to_be_bytes();
+    [letter, p0, p1, p2, p3]
 }

@@ -22,7 +22,7 @@ fn token_size(token: Token<'_>, depth: u8) -> Option<usize>
         return None;
     }
     match token {
-        Token::Letter(c) if c < 33 || c > 126 => None,
+        Token::Letter(c) if !(33..=126).contains(&c) => None,
         Token::Note(inside) | Token::Command(_, inside) => {
             let inside = tokens_size(inside, depth.checked_sub(1)?)?;
             Some(2 + inside)

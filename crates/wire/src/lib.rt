@@ -9,10 +9,10 @@ mod laws;
 mod refusal;
 mod token;
 
-pub use answer::{Answer, write_answer, write_letter, write_row, write_rows};
+pub use answer::{Answer, LETTER_BYTES, letter_bytes, row_start, rows_start, write_answer};
 pub use call::{Call, read_call};
 pub use fit::tokens_size;
 pub use kind::{AnswerKind, CallKind, NoKind, TokenKind};
 pub use laws::{only_read, read_back, stops_right, written_once};
 pub use refusal::{Refusal, Unreadable};
-pub use token::{Token, Tokens, next_token};
+pub use token::{LETTERS, Token, Tokens, next_token};

@@ -7,6 +7,9 @@ ghost use Rattle.wire.specs.Cut.{extent_of, enclosed_in, BeginsWith, TakesFirst}
 
 use crate::kind::TokenKind;
 
+// The letters 32 to 126, each of which has a width.
+pub const LETTERS: usize = 95;
+
 #[derive(Clone, Copy, Debug, PartialEq, Eq)]
 pub enum Token<'a> {
     Letter(u8),

@@ -1,28 +1,18 @@
 -- A word put into a slot: what the row has then, and what it keeps.
 use Rattle.std.proofs.Common.{◌≡◌, ℕ, zero, suc, ◌+◌, ◌*◌, ◌<◌, ◌≤◌, List, ◌++◌, length, get_or, take, drop, sym, refl, ap, ◌∙◌, subst, inl, inr, add-zero, arith}
-use Rattle.std.proofs.lemmas.List.{append_assoc, length-append, length-take-le, length-drop, get_or_append_left, get_or-append-add, get_or-take, get_or-drop, drop_at, drop-drop}
+use Rattle.std.proofs.lemmas.List.{append_assoc, length-append, length-take-le, length-drop, get_or_append_left, get_or-append-add, get_or-take, drop_at, drop-drop}
 use Rattle.std.proofs.lemmas.Bool.{cases_eq}
 use Rattle.std.specs.Simd.{first_chunks}
 use Rattle.meaning.specs.Lines
+use Rattle.wire.proofs.Chunks.{chunk_at}
 use Rattle.words.specs.Slots.{slot_place, slot_numbers, slot_word, word_in, with_slot, WordsIn, Lies, Stays}
 use Rattle.words.specs.Laws.{Measured}
 use Rattle.words.specs.declared.slots.Word.{Word}
 
 -- a slot is eight numbers of the row
-chunk_at : (size count k : ℕ) (d xs : List ℕ) → k < count → get_or (first_chunks size count xs) k d ≡ take size (drop (k * size) xs)
-chunk_at size zero k d xs l = absurd (omega arith)
-chunk_at size (suc count) zero d xs l = let none : 0 ≡ 0 * size = omega arith in ap (λ n. take size (drop n xs)) none
-chunk_at size (suc count) (suc k) d xs l =
-    let next : size + k * size ≡ suc k * size = omega arith in
-    chunk_at size count k d (drop size xs) (omega arith) ∙ ap (take size) (drop-drop (k * size) size xs ∙ ap (λ n. drop n xs) next)
-
 pub slot_word_at : (slots d : List ℕ) (count k : ℕ) → k < count → slot_word (get_or (first_chunks 8 count slots) k d) ≡ word_in slots k
 slot_word_at slots d count k l =
-    let place : k * 8 ≡ slot_place k = omega arith in
-    let there : (j : ℕ) → j < 8 → get_or (get_or (first_chunks 8 count slots) k d) j 0 ≡ get_or slots (slot_place k + j) 0 =
-    λ j h. ap (λ (ns : List ℕ). get_or ns j 0) (chunk_at 8 count k d slots l ∙ ap (λ p. take 8 (drop p slots)) place)
-    ∙ get_or-take 8 (drop (slot_place k) slots) j 0 h ∙ get_or-drop (slot_place k) slots j 0
-    in
+    let there : (j : ℕ) → j < 8 → get_or (get_or (first_chunks 8 count slots) k d) j 0 ≡ get_or slots (slot_place k + j) 0 = λ j h. chunk_at 8 count d slots k j l h in
     let p : get_or (get_or (first_chunks 8 count slots) k d) 0 0 ≡ get_or slots (slot_place k) 0 = rw add-zero at (there 0 (omega arith)) in
     λ i. record { first = p i; atoms = there 1 (omega arith) i; width = there 2 (omega arith) i }
 

@@ -1,9 +1,9 @@
 -- Tokens read one by one, each as an atom behind the atoms before it.
 use Rattle.std.proofs.Common.{◌≡◌, ℕ, ◌+◌, ◌<◌, ◌≤◌, true, leb, List, [], ◌∷◌, ◌++◌, map, length, get_or, drop, set, Some, None, Option, Result, Ok, Err, sym, refl, ap, ◌∙◌, subst, arith}
 use Rattle.std.proofs.lemmas.List.{append-nil, append_assoc, length-append, length_push, length-map, set_at, drop_more, map_push}
-use Rattle.std.proofs.lemmas.Bool.{le-leb, lt-leb, and_from, and_parts}
+use Rattle.std.proofs.lemmas.Bool.{le-leb, leb-true, lt-leb, and_from, and_parts}
 use Rattle.meaning.specs.Text.{Atom, none}
-use Rattle.meaning.proofs.Picks.{pick_true, pick_false}
+use Rattle.meaning.proofs.Picks.{pick_true, pick_false, some_picked}
 use Rattle.wire.specs.Bytes.{tokens_of}
 use Rattle.wire.specs.Cut.{token_of, First}
 use Rattle.wire.specs.declared.token.Token.{Token}
@@ -34,6 +34,12 @@ followed_by_more xs x (Some ys) = ap Some (sym (append_assoc xs (x ∷ []) ys))
 
 within_some : (bulk : ℕ) (xs : List Atom) → length xs ≤ bulk → within bulk (Some xs) ≡ Some xs
 within_some bulk xs l = pick_true (leb (length xs) bulk) (Some xs) None (le-leb (length xs) bulk l)
+
+pub within_few : (bulk : ℕ) (found : Option (List Atom)) (xs : List Atom) → within bulk found ≡ Some xs → length xs ≤ bulk
+within_few bulk None xs e = cc
+within_few bulk (Some ys) xs e =
+    let q : (leb (length ys) bulk ≡ true) × (xs ≡ ys) = some_picked (leb (length ys) bulk) xs ys (sym e) in
+    omega (arith, leb-true (length ys) bulk q.0, ap length q.1)
 
 within_more : (bulk : ℕ) (xs : List Atom) (x : Atom) (o : Option (List Atom)) → bulk ≤ length xs → within bulk (followed_by xs (before_all (Some x) o)) ≡ None
 within_more bulk xs x None l = refl

@@ -6,6 +6,7 @@
 --   plain_within  these, where there are at most so many
 --   AtomOf        what it is to be the atom of a token, or to have none
 --   Reads         what reading leaves in a row that is for atoms alone
+--   ReadsIn       the same in a longer row, of which just the start is for atoms
 --   Writes        the same, but that without atoms the row is left as it then is
 --   cleared       a row whose first numbers are 0 again, for the crates above
 use Rattle.std.specs.Prelude.{◌≡◌, ℕ, ◌+◌, Bool, true, false, ◌&&◌, List, [], ◌∷◌, ◌++◌, map, length, drop, replicate, Some, None, Option, Result, MatchResult, nat_le, nat_lt}
@@ -89,6 +90,16 @@ pub record Reads (bytes before after : List ℕ) (r : Option ℕ) : Type 0 where
   pub count : r ≡ how_many (plain_within (length before) bytes)
   pub holds : after ≡ with_atoms (plain_within (length before) bytes) before
   pub plain : PlainIfAny (plain_within (length before) bytes)
+
+-- in a longer row, of which just the start is for atoms, so many
+abbrev pub with_atoms_in : ℕ → Option (List Text.Atom) → List ℕ → List ℕ
+with_atoms_in most None row = cleared most row
+with_atoms_in most (Some xs) row = map atom_number xs ++ drop (length xs) row
+
+pub record ReadsIn (bytes : List ℕ) (most : ℕ) (before after : List ℕ) (r : Option ℕ) : Type 0 where
+  pub count : r ≡ how_many (plain_within most bytes)
+  pub holds : after ≡ with_atoms_in most (plain_within most bytes) before
+  pub plain : PlainIfAny (plain_within most bytes)
 
 abbrev pub Written : Option (List Text.Atom) → List ℕ → List ℕ → Type 0
 Written None before after = Unit {0}

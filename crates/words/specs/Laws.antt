@@ -2,7 +2,8 @@
 --   Plainly         tokens are letters and spaces, and these atoms are theirs
 --   GoodArePlain  tokens that are good for a stage with letters and spaces alone are such, whatever is defined and wherever the pages are
 --   ReadsGood      reading these atoms fails only for want of room, and else they stand at the start of the row
---   GoodAreRead   so it is where good tokens are read
+--   GoodAreRead   so it is where good tokens are read, into a row or the start of one
+--   ReadsAll      a row that is for atoms alone is such a start, as long as it is
 --   Measured        a row of slots has the widths of these words, all small enough for the line breaker
 --   SlotsMeasured  so it is where atoms were split
 use Rattle.std.specs.Prelude.{◌≡◌, ℕ, ◌+◌, ◌*◌, ◌<◌, ◌≤◌, Bool, true, List, map, length, take, Some, None, Option, nat_le, slice_index, slice_index_or}
@@ -10,7 +11,7 @@ use Rattle.meaning.specs.Text.{pick, Atom, Tokens, Definition, atoms}
 use Rattle.meaning.specs.Lines.{Word, nothing_yet, split, long}
 use Rattle.meaning.specs.Calls.{good, bulk}
 use Rattle.wire.specs.Bytes.{tokens_of}
-use Rattle.words.specs.Atoms.{atom_number, all_plain, plain_atoms, Reads}
+use Rattle.words.specs.Atoms.{atom_number, all_plain, plain_atoms, Reads, ReadsIn}
 use Rattle.words.specs.Slots.{Stays, Splits}
 
 pub record Plainly (ts : Tokens) (xs : List Atom) : Type 0 where
@@ -34,9 +35,12 @@ pub record ReadsGood (xs : List Atom) (most : ℕ) (after : List ℕ) (r : Optio
 
 abbrev pub GoodAreRead : Type 0
 GoodAreRead =
-    (can : ℕ → Bool) (bytes : List ℕ) (depth : ℕ) (ds : List Definition) (pg : ℕ → ℕ) (before after : List ℕ) (r : Option ℕ) →
-    LettersAndSpaces can → good can (tokens_of bytes) depth ≡ true → Reads bytes before after r →
-    ReadsGood (atoms ds pg (tokens_of bytes)) (length before) after r
+    (can : ℕ → Bool) (bytes : List ℕ) (depth : ℕ) (ds : List Definition) (pg : ℕ → ℕ) (most : ℕ) (before after : List ℕ) (r : Option ℕ) →
+    LettersAndSpaces can → good can (tokens_of bytes) depth ≡ true → ReadsIn bytes most before after r →
+    ReadsGood (atoms ds pg (tokens_of bytes)) most after r
+
+abbrev pub ReadsAll : Type 0
+ReadsAll = (bytes before after : List ℕ) (r : Option ℕ) → Reads bytes before after r → ReadsIn bytes (length before) before after r
 
 pub record Measured (wide : ℕ → ℕ) (ws : List Word) (slots : List ℕ) (n : ℕ) : Type 0 where
   pub as_many : length ws ≡ n

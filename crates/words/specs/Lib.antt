@@ -1,3 +1,4 @@
 pub mod Atoms
 pub mod Slots
 pub mod Laws
+pub mod Lined

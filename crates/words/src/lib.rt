@@ -1,12 +1,15 @@
-// The atoms of a paragraph, in one part of lent memory, and its words, in another.
+// The atoms of a paragraph, in one part of lent memory, and its words in their best lines, in another.
+// The two parts go side by side: in a struct of two `&mut` each method would have to promise that the fields keep their references.
 #![tactic(auto)]
 
 mod laws;
+mod lines;
 mod read;
 mod slots;
 mod split;
 
 pub use laws::{good_are_plain, good_are_read, slots_measured};
+pub use lines::break_into_lines;
 pub use read::read_atoms;
-pub use slots::{Word, word_at};
+pub use slots::Word;
 pub use split::{letter_width, split_words};

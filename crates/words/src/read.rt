@@ -1,13 +1,15 @@
 // Tokens read into atoms, one number each, from the start of a row on.
-ghost use Rattle.std.specs.Prelude.{◌≡◌};
+ghost use Rattle.std.specs.Prelude.{◌≡◌, Some, codes};
 ghost use Rattle.words.specs.Atoms.{atom_number, atom_of, AtomOf, Reads, Writes};
 
+use std::error::Error;
+use std::fmt;
 use wire::{Token, Tokens};
 
 // A gap's number: no letter has it, since letters are bytes.
 pub(crate) const GAP: u64 = 256;
 
-#[derive(Clone, Copy)]
+#[derive(Clone, Copy, Debug, PartialEq, Eq)]
 pub(crate) enum Atom {
     Letter(u8),
     Gap,
@@ -25,8 +27,18 @@ impl From<Atom> for u64 {
 }
 
 // Of a token that is no letter and no space: none of these is an atom yet.
-#[derive(Clone, Copy)]
+#[derive(Clone, Copy, Debug, PartialEq, Eq)]
 pub(crate) struct NoAtom;
+
+impl fmt::Display for NoAtom {
+    ghost output = { λ _. Some (codes "a token is no atom") };
+
+    fn fmt<W: fmt::Write>(&self, f: &mut fmt::Formatter<W>) -> fmt::Result {
+        f.write_str("a token is no atom")
+    }
+}
+
+impl Error for NoAtom {}
 
 impl TryFrom<Token<'_>> for Atom {
     type Error = NoAtom;
@@ -43,7 +55,7 @@ impl TryFrom<Token<'_>> for Atom {
 }
 
 // How many atoms there were; None where there is no room for all, or a token is no atom.
-// The atoms are counted by hand, since after get_mut or iter_mut a proof knows no element of the slice.
+// The atoms are counted by hand, since after `get_mut`, or after `zip` over `iter_mut`, a proof knows no element of the slice.
 fn write_atoms(tokens: &[u8], atoms: &mut [u64]) -> Option<usize>
     ensures { Writes tokens.now atoms.old atoms.new result }
 {

@@ -1,12 +1,12 @@
 // Words, each in a slot of eight numbers.
 ghost use Rattle.std.specs.Prelude.{◌≡◌, ◌+◌, ◌^◌, ◌<◌, ◌≤◌, length, ◌==◌};
 ghost use Rattle.meaning.specs.Text.{pick};
-ghost use Rattle.words.specs.Slots.{slot_place, slot_numbers, slot_word, word_in, with_slot, no_letters, with_letter};
+ghost use Rattle.words.specs.Slots.{slot_place, slot_numbers, slot_word, with_slot, with_letter};
 
 use linebreak::SLOT;
 
 // A word's atoms are so many from the first on; its width is that of its letters together.
-#[derive(Clone, Copy)]
+#[derive(Clone, Copy, Debug, Default, PartialEq, Eq)]
 pub struct Word {
     pub first: usize,
     pub atoms: usize,
@@ -14,16 +14,6 @@ pub struct Word {
 }
 
 impl Word {
-    pub(crate) fn starting(first: usize) -> Word
-        ensures { result ≡ no_letters first }
-    {
-        Word {
-            first,
-            atoms: 0,
-            width: 0,
-        }
-    }
-
     pub(crate) fn with_letter(self, width: usize) -> Word
         requires { (self.atoms + 1 < 2 ^ 64) × (self.width + width < 2 ^ 64) }
         ensures { result ≡ with_letter self width }
@@ -60,14 +50,6 @@ impl From<Word> for [u64; SLOT] {
         } = word;
         [first as u64, atoms as u64, width as u64, 0, 0, 0, 0, 0]
     }
-}
-
-// The word that slot k has.
-pub fn word_at(slots: &[u64], k: usize) -> Word
-    requires { slot_place (k + 1) ≤ length slots.now }
-    ensures { result ≡ word_in slots.now k }
-{
-    Word::from(&slots.as_chunks().0[k])
 }
 
 // How many words there are then: one without letters is none.

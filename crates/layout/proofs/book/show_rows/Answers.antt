@@ -3,42 +3,42 @@ use Rattle.meaning.proofs.Picks.{pick_true}
 use Rattle.wire.specs.Bytes.{over}
 use Rattle.store.specs.Kept.{is_open}
 use Rattle.layout.specs.Asked.{shown_of, bytes_of_rows}
-use Rattle.layout.proofs.OpenBooks.{looked_at, cut_room, stands_apart, pages_there, cleaned}
+use Rattle.layout.proofs.OpenBooks.{cut_room, stands_apart, pages_there, cleaned}
 use Rattle.layout.proofs.book.show_rows.Goals as goal
 
 pub split_at_mut-front-requires : goal.split_at_mut-front-requires
 split_at_mut-front-requires c =
-    let book = looked_at c.look.ensures c.ok_or.ensures.ok_part c.in_ok-kept.was in
-    omega (arith, cut_room book c.front_len.ensures)
+    let book = rw c.in_ok-kept.was at c.looked_at.ensures in
+    omega (arith, cut_room book c.front.ensures)
 
 pub of-book-requires : goal.of-book-requires
 of-book-requires c =
-    let book = looked_at c.look.ensures c.ok_or.ensures.ok_part c.in_ok-kept.was in
+    let book = rw c.in_ok-kept.was at c.looked_at.ensures in
     let halves = c.split_at_mut-front.ensures in
-    stands_apart book c.front_len.ensures halves.front halves.back
+    stands_apart book c.front.ensures halves.front halves.back
 
 pub returns-clause-value : goal.returns-clause-value
 returns-clause-value c =
-    let book = looked_at c.look.ensures c.ok_or.ensures.ok_part c.in_ok-kept.was in
+    let book = rw c.in_ok-kept.was at c.looked_at.ensures in
     let halves = c.split_at_mut-front.ensures in
-    let pages = pages_there book c.front_len.ensures halves.front halves.back c.of-book.ensures.sheet c.of-book.ensures.paragraphs in
+    let pages = pages_there book c.front.ensures halves.front halves.back c.of-book.ensures.sheet c.of-book.ensures.paragraphs in
     c.show-shown.ensures.value
-    ∙ (ap (λ ps. shown_of ps c.args.page c.args.row c.args.count) (sym pages) ∙ sym (pick_true (is_open (length c.args.tokens.now) c.args.rest.now) _ _ book.opened))
+    ∙ (ap (λ ps. shown_of ps c.args.wanted.page c.args.wanted.row c.args.wanted.count) (sym pages) ∙ sym (pick_true (is_open (length c.args.tokens.now) c.args.rest.now) _ _ book.opened))
 
 pub returns-clause-written : goal.returns-clause-written
 returns-clause-written c =
-    let book = looked_at c.look.ensures c.ok_or.ensures.ok_part c.in_ok-kept.was in
+    let book = rw c.in_ok-kept.was at c.looked_at.ensures in
     let halves = c.split_at_mut-front.ensures in
-    let pages = pages_there book c.front_len.ensures halves.front halves.back c.of-book.ensures.sheet c.of-book.ensures.paragraphs in
+    let pages = pages_there book c.front.ensures halves.front halves.back c.of-book.ensures.sheet c.of-book.ensures.paragraphs in
     c.show-shown.ensures.after
-    ∙ ap (λ ps. cond (is_ok c.show-shown.result) (over (bytes_of_rows ps c.args.page c.args.row c.args.count) c.args.out.now) c.args.out.now) (sym pages)
+    ∙ ap (λ ps. cond (is_ok c.show-shown.result) (over (bytes_of_rows ps c.args.wanted.page c.args.wanted.row c.args.wanted.count) c.args.out.now) c.args.out.now) (sym pages)
 
 pub returns-clause-after : goal.returns-clause-after
 returns-clause-after c =
-    let book = looked_at c.look.ensures c.ok_or.ensures.ok_part c.in_ok-kept.was in
+    let book = rw c.in_ok-kept.was at c.looked_at.ensures in
     let halves = c.split_at_mut-front.ensures in
     let same = c.show-shown.ensures.same in
     let lent = c.clean.ensures.same.lent ∙ (same.lent ∙ c.of-book.ensures.lent) in
     ap (λ (xs : List ℕ). c.split_at_mut-front.result.0.now ++ xs) (search (rules, lent))
-    ∙ (cleaned book c.front_len.ensures halves.front halves.back _ c.of-book.ensures.sheet same.sheet c.of-book.ensures.work same.behind c.clean.ensures.zeros
+    ∙ (cleaned book c.front.ensures halves.front halves.back _ c.of-book.ensures.sheet same.sheet c.of-book.ensures.work same.behind c.clean.ensures.zeros
     ∙ sym (pick_true (is_open (length c.args.tokens.now) c.args.rest.now) _ _ book.opened))

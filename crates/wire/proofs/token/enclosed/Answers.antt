@@ -1,9 +1,6 @@
 use Rattle.std.proofs.Common.{◌<◌, length, arith, rules}
-use Rattle.wire.proofs.Firsts.{closes_within, enclosed_parts}
+use Rattle.wire.proofs.Firsts.{closes_within}
 use Rattle.wire.proofs.token.enclosed.Goals as goal
-
-pub slice_bounds-result-end-in-Close : goal.slice_bounds-result-end-in-Close
-slice_bounds-result-end-in-Close c = omega (arith, (closes_within c.args.bytes.now c.in-Close.n c.in-Close.ensures).0)
 
 pub slice_bounds-result-count : goal.slice_bounds-result-count
 slice_bounds-result-count c = omega (arith, (closes_within c.args.bytes.now c.in-Close.n c.in-Close.ensures).0)
@@ -12,6 +9,3 @@ pub slice_bounds-result-start : goal.slice_bounds-result-start
 slice_bounds-result-start c =
     let within : c.in-Close.n < length c.args.bytes.now = (closes_within c.args.bytes.now c.in-Close.n c.in-Close.ensures).0 in
     search rules
-
-pub returns-in-Close : goal.returns-in-Close
-returns-in-Close c = enclosed_parts c.args.bytes.now c.in-Close.n c.in-Close.ensures

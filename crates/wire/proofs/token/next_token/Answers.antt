@@ -1,8 +1,8 @@
-use Rattle.std.proofs.Common.{◌≡◌, ℕ, ◌<◌, Some, None, Ok, Err, Result, sym, refl}
+use Rattle.std.proofs.Common.{◌≡◌, ℕ, ◌<◌, None, Ok, Err, Result, refl}
 use Rattle.std.specs.Result.{result_ok}
 use Rattle.std.proofs.lemmas.List.{nil_from_length}
 use Rattle.wire.specs.Bytes.{parsed_in}
-use Rattle.wire.specs.Kinds.{token_byte, TokenByte}
+use Rattle.wire.specs.Kinds.{TokenByte}
 use Rattle.wire.specs.declared.kind.TokenKind.{TokenKind}
 use Rattle.wire.specs.declared.kind.NoKind.{NoKind}
 use Rattle.wire.proofs.Firsts.{none_first}
@@ -12,10 +12,6 @@ no_kind : (x : ℕ) (k : Result TokenKind NoKind) → None ≡ result_ok k → T
 no_kind x (Ok kind) e h = absurd (cc)
 no_kind x (Err none) e h = h
 
-byte_of : (x : ℕ) (k : Result TokenKind NoKind) (kind : TokenKind) → Some kind ≡ result_ok k → TokenByte x k → token_byte kind ≡ x
-byte_of x (Ok other) kind e h = let same : kind ≡ other = cc in rw same h
-byte_of x (Err none) kind e h = absurd (cc)
-
 pub returns-in_err-byte : goal.returns-in_err-byte
 unfolding parsed_in
 returns-in_err-byte c = rw (c.from_residual.ensures, nil_from_length c.args.bytes.now c.in_err-byte.ensures.cases) refl
@@ -23,8 +19,3 @@ returns-in_err-byte c = rw (c.from_residual.ensures, nil_from_length c.args.byte
 pub returns-in_err-kind : goal.returns-in_err-kind
 returns-in_err-kind c =
     rw c.from_residual-in_err-kind.ensures (none_first _ _ _ c.in_ok-byte.ensures.cases.0 (no_kind _ _ c.in_err-kind.ensures.value c.try_from.ensures))
-
-pub returns : goal.returns
-returns c =
-    let byte = byte_of _ _ _ c.in_ok-kind.ensures.value c.try_from.ensures in
-    rw (c.in_ok-byte.ensures.cases.0, sym byte) c.read_token.ensures

@@ -16,7 +16,7 @@ loop-behind-preserved c =
     let place =
     placed s all c.args.wanted c.loop-behind.behind c.loop-behind.walk c.loop-behind.from h c.all-goal.result c.first.result c.all-goal.ensures c.first.ensures c.loop-behind-test.ensures c.if-not-has_reached.from
     (elim c.if-not-has_reached.branch [ then-not-has_reached w ↦ inl (w.if-not-has_reached.ensures, w.from-is) | else-not-has_reached w ↦ inr w.from-is ]) in
-    let value : c.walk_paragraph-walk.result ≡ sought s.rows c.all-goal.result (replicate (length (paragraph_lines s c.in-Some.bytes.now)) 1) c.loop-behind.walk =
+    let value : c.walk_paragraph-walk.result ≡ sought s.looks.rows c.all-goal.result (replicate (length (paragraph_lines s c.in-Some.bytes.now)) 1) c.loop-behind.walk =
     rw c.loop-behind.invariant.same.sheet at c.walk_paragraph-walk.ensures.value in
     let on = goes_on s all c.args.wanted c.loop-behind.behind c.loop-behind.walk c.loop-behind.from h c.all-goal.result c.first.result c.all-goal.ensures c.first.ensures c.loop-behind-test.ensures in
     record {
@@ -24,7 +24,7 @@ loop-behind-preserved c =
       so_far =
           one_more s all c.args.wanted c.in-Some.bytes.now (paragraphs_left c.next.new.self) (paragraphs_left c.loop-behind.behind) c.loop-behind.walk c.walk_paragraph-walk.result c.if-not-has_reached.from
           c.in-Some.ensures.steps place on
-          (value ∙ ap (λ (goal : Goal). sought s.rows goal (replicate (length (paragraph_lines s c.in-Some.bytes.now)) 1) c.loop-behind.walk) c.all-goal.ensures)
+          (value ∙ ap (λ (goal : Goal). sought s.looks.rows goal (replicate (length (paragraph_lines s c.in-Some.bytes.now)) 1) c.loop-behind.walk) c.all-goal.ensures)
           c.walk_paragraph-walk.ensures.grown;
     }
 

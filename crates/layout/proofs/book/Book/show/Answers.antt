@@ -1,4 +1,4 @@
-use Rattle.std.proofs.Common.{rules, ◌∙◌, refl, inl, inr, arith}
+use Rattle.std.proofs.Common.{rules, ℕ, List, ◌++◌, drop, ap, ◌∙◌, refl, inl, inr, arith}
 use Rattle.store.specs.Paragraphs.{paragraphs_left}
 use Rattle.layout.proofs.Asking.{no_such_page, not_so_many, written_there, shown_there}
 use Rattle.layout.proofs.book.Book.show.Goals as goal
@@ -27,4 +27,4 @@ returns-clause-after c =
     let lent = rows.lent in
     search (rules, lent)
     ∙ written_there c.args.self.now.sheet (paragraphs_left c.args.self.now.paragraphs) c.args.wanted c.seek.result c.seek.ensures.found (omega arith) (omega arith) _ c.write.new.rows refl refl refl rows
-    c.args.out.now (omega (arith, c.requires)) c.write_rows.ensures
+    c.args.out.now (omega (arith, c.requires)) (ap (λ (xs : List ℕ). xs ++ drop 2 c.args.out.now) (c.copy_from_slice.ensures.after ∙ c.rows_start.ensures))

@@ -3,15 +3,15 @@ use Rattle.layout.proofs.Lining.{summed_more, summed_le, summed_all}
 use Rattle.layout.proofs.SetLines.{word_here, letters_few, widths_le_line}
 use Rattle.layout.proofs.line.Line.sums.Goals as goal
 
-pub overflow_add-letters : goal.overflow_add-letters
-overflow_add-letters c =
+pub overflow_add-sums : goal.overflow_add-sums
+overflow_add-sums c =
     let l = c.args.self.now in
     let (there, value, fits) = word_here c.slots-slot-items.ensures l.within c.loop-slot-test.true c.from-word.ensures in
     let more = summed_more c.loop-slot.invariant c.from-word.result there value fits in
     omega (arith, (summed_le more).0, letters_few l.paragraph l.words l.within)
 
-pub overflow_add-width : goal.overflow_add-width
-overflow_add-width c =
+pub overflow_add-sums-in-loop-slot : goal.overflow_add-sums-in-loop-slot
+overflow_add-sums-in-loop-slot c =
     let l = c.args.self.now in
     let (there, value, fits) = word_here c.slots-slot-items.ensures l.within c.loop-slot-test.true c.from-word.ensures in
     let more = summed_more c.loop-slot.invariant c.from-word.result there value fits in

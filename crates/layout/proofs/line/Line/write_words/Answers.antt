@@ -21,7 +21,7 @@ write_word-requires c =
     let out = c.loop-slot.out in
     let part : length (take (length out - at) (drop at out)) ≡ length out - at = ap length (take_rest out at) ∙ length-drop at out in
     rw (letters_cut p.atoms.now v) (
-      letters_small p.sheet.now.widths p.atoms.now v fits,
+      letters_small p.sheet.now.looks.widths p.atoms.now v fits,
       (
         omega (arith, room, count, part, c.requires.1, c.loop-slot.invariant.as_long),
         omega (arith, room, count, few, words, there, c.loop-slot.invariant.near),
@@ -49,7 +49,7 @@ loop-slot-preserved c =
     rw (add_assoc l.words.start c.loop-slot.slot-index 1) at
     (worded_more c.loop-slot.invariant v c.from-space.result c.first.result c.others-left.result c.write_word.new.out (omega arith)
     there c.requires.1 c.requires.0 value fits (c.from-space.ensures ∙ c.space.ensures) (omega arith) c.first.ensures c.others-left.ensures
-    (c.write_word.ensures ∙ ap (λ (cs : List ℕ). over (word_bytes (wide_by p.sheet.now.widths) c.loop-slot.x cs) part) (letters_cut p.atoms.now v)))
+    (c.write_word.ensures ∙ ap (λ (cs : List ℕ). over (word_bytes (wide_by p.sheet.now.looks.widths) c.loop-slot.x cs) part) (letters_cut p.atoms.now v)))
 
 pub returns : goal.returns
 returns c = worded_all c.loop-slot.invariant (omega (arith, c.loop-slot-test.false, c.slots-slot-items.ensures.as_many))

@@ -19,7 +19,7 @@ returns-in-None c =
     let p = c.args.self.now in
     let many = as_many_lines p.sheet.now p.atoms.now p.slots.now p.lines in
     record {
-      value = walked_all c.loop-line.invariant c.in-None.ensures.steps.0 ∙ ap (λ n. sought p.sheet.now.rows c.args.goal (replicate n 1) c.args.walk) (sym many);
+      value = walked_all c.loop-line.invariant c.in-None.ensures.steps.0 ∙ ap (λ n. sought p.sheet.now.looks.rows c.args.goal (replicate n 1) c.args.walk) (sym many);
       grown = walked_grown c.loop-line.invariant _ (no_more_lines p.sheet.now p.atoms.now p.slots.now p.lines);
     }
 
@@ -28,6 +28,6 @@ returns-then-has_reached c =
     let p = c.args.self.now in
     let many = as_many_lines p.sheet.now p.atoms.now p.slots.now p.lines in
     record {
-      value = walked_reached c.loop-line.invariant (sym c.if-has_reached.ensures) ∙ ap (λ n. sought p.sheet.now.rows c.args.goal (replicate n 1) c.args.walk) (sym many);
+      value = walked_reached c.loop-line.invariant (sym c.if-has_reached.ensures) ∙ ap (λ n. sought p.sheet.now.looks.rows c.args.goal (replicate n 1) c.args.walk) (sym many);
       grown = walked_grown c.loop-line.invariant _ (no_more_lines p.sheet.now p.atoms.now p.slots.now p.lines);
     }

@@ -6,15 +6,3 @@ use Rattle.text.proofs.call.Verb.named.Goals as goal
 pub returns-in-define : goal.returns-in-define
 unfolding verb_of
 returns-in-define c = as_literal verb_of c.args.word.now (codes "define") (omega arith) (search rules)
-
-pub returns-in-show : goal.returns-in-show
-unfolding verb_of
-returns-in-show c = as_literal verb_of c.args.word.now (codes "show") (omega arith) (search rules)
-
-pub returns-in-where : goal.returns-in-where
-unfolding verb_of
-returns-in-where c = as_literal verb_of c.args.word.now (codes "where") (omega arith) (search rules)
-
-pub returns-in-bytes : goal.returns-in-bytes
-unfolding verb_of
-returns-in-bytes c = as_literal verb_of c.args.word.now (codes "bytes") (omega arith) (search rules)

@@ -10,7 +10,3 @@ returns-in-limits c = as_literal keyword_of c.args.word.now (codes "limits") (om
 pub returns-in-widths : goal.returns-in-widths
 unfolding keyword_of
 returns-in-widths c = as_literal keyword_of c.args.word.now (codes "widths") (omega arith) (search rules)
-
-pub returns-in-width : goal.returns-in-width
-unfolding keyword_of
-returns-in-width c = as_literal keyword_of c.args.word.now (codes "width") (omega arith) (search rules)

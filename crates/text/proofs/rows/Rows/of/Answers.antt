@@ -1,17 +1,14 @@
-use Rattle.std.proofs.Common.{◌≡◌, ◌-◌, false, is_some, Some, None, Option, sym, refl, ap, ◌∙◌, arith}
+use Rattle.std.proofs.Common.{◌≡◌, ◌-◌, is_some, sym, refl, ap, ◌∙◌, arith}
+use Rattle.std.proofs.option.Match.{None-if_not_some}
 use Rattle.text.specs.Rows.{rows_in, rows_of}
 use Rattle.text.proofs.RowParts.{rows_broken, rows_on, rows_end}
 use Rattle.text.proofs.rows.Rows.of.Goals as goal
 use Rattle.text.proofs.rows.Rows.of.Goals.{After-is_empty}
 
-none_from : {A : Type 0} (o : Option A) → is_some o ≡ false → o ≡ None
-none_from None e = refl
-none_from (Some x) e = cc
-
 pub returns-in_err-next : goal.returns-in_err-next
 returns-in_err-next c =
     let broken = rows_broken c.in_ok-count.count.now c.loop.counter c.loop.rows.0.now c.loop-test.true (sym c.in_err-next.ensures.steps) in
-    let none = none_from _ (sym c.loop.invariant ∙ broken) in
+    let none = None-if_not_some _ (sym c.loop.invariant ∙ broken) in
     rw (c.from_residual-in_err-next.ensures, c.in_ok-count.ensures.cases.0, none) refl
 
 pub loop-preserved : goal.loop-preserved
@@ -26,7 +23,7 @@ ended c =
 
 pub returns-then-not-is_empty : goal.returns-then-not-is_empty
 returns-then-not-is_empty c =
-    let none = none_from _ (sym (ended (goal.at.returns-then-not-is_empty c).After-is_empty) ∙ c.if-not-is_empty.true) in
+    let none = None-if_not_some _ (sym (ended (goal.at.returns-then-not-is_empty c).After-is_empty) ∙ c.if-not-is_empty.true) in
     rw (c.in_ok-count.ensures.cases.0, none) refl
 
 pub invariant_of-result : goal.invariant_of-result

@@ -5,6 +5,3 @@ use Rattle.text.proofs.widths.KeyTryFromRefSliceU8.try_from.Goals as goal
 
 pub returns-in-others : goal.returns-in-others
 returns-in-others c = (as_literal key_of c.args.word.now (codes "others") (omega arith) (search rules), tt)
-
-pub returns-in-space : goal.returns-in-space
-returns-in-space c = (as_literal key_of c.args.word.now (codes "space") (omega arith) (search rules), (search rules, search rules))
