@@ -78,7 +78,6 @@ int main(void) {
     told("second paragraph", put(1, "A page has so many rows, and a row is asked for by its number."));
     told("a paragraph past the last", put(7, "nowhere"));
     told("bytes that are no call", call((const uint8_t[]){5, 5}, 2));
-    /* Until questions can be done, the first one is refused by 2. */
     for (unsigned row = 0; told("that was all", show(0, row, 1)); row++)
         print_row();
     return 0;

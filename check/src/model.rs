@@ -76,8 +76,10 @@ fn can_do(tokens: &[Token]) -> bool {
 fn is_good(call: &Call) -> bool {
     match call {
         Call::Put { tokens, .. } | Call::PutIn { tokens, .. } => can_do(tokens),
-        Call::Cut { .. } => true,
-        Call::Define { .. } | Call::Show { .. } | Call::WhereIs { .. } | Call::HowMany => false,
+        Call::Define { .. } => false,
+        Call::Show { count, .. } => *count <= 8,
+        Call::WhereIs { name } => *name <= 255,
+        Call::Cut { .. } | Call::HowMany => true,
     }
 }
 

@@ -5,7 +5,7 @@ use session::{Asked, Opening, ROOM, call, open};
 use std::alloc::Global;
 use std::io::{BufRead, BufReader};
 use std::{env, fs, io};
-use text::{Outcome, Reader, Shown, Step};
+use text::{Outcome, Reader, Shown, Step, without_end};
 use wire::Refusal;
 
 const HELP: &str = "\
@@ -23,7 +23,8 @@ and then come the calls
 A file may hold several books. Empty lines and lines that begin with # are passed over.
 A line that can't be read ends the program with status 1, and is told on standard error.";
 
-// The lent memory of a book, and room for an answer. The program samples has the like: a library would need contracts on vectors for these few lines.
+// The lent memory of a book, and room for an answer. The programs print, samples and speed have the like: a library would need contracts on vectors for these
+// few lines.
 #[derive(Drop)]
 struct Memory {
     tokens: Vec<u8>,
@@ -58,15 +59,6 @@ impl Memory {
         let written = call(&mut self.tokens, &mut self.rest, bytes, &mut self.out);
         let n = written.unwrap_or(0).min(self.out.len());
         &self.out[..n]
-    }
-}
-
-// The line without its end, which is a line feed or a carriage return and one.
-fn without_end(line: &[u8]) -> &[u8] {
-    match line {
-        [line @ .., b'\r', b'\n'] => line,
-        [line @ .., b'\n'] => line,
-        _ => line,
     }
 }
 

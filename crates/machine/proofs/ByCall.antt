@@ -1,9 +1,9 @@
--- Each call of the stage as a step: put, cut and put in are edits, the others are nothing that it can do.
-use Rattle.std.proofs.Common.{◌≡◌, ℕ, suc, ◌+◌, ◌<◌, ◌≤◌, Bool, true, false, ◌&&◌, eqb, ltb, List, [], ◌∷◌, ◌++◌, length, get_or, take, drop, Some, None, sym, refl, ap, ◌∙◌, ap₂, subst₂, inl, inr, add-zero, arith}
+-- Each call of the stage as a step: put, cut and put in are edits, the others are questions, and a definition is nothing that it can do.
+use Rattle.std.proofs.Common.{◌≡◌, ℕ, suc, ◌+◌, ◌<◌, ◌≤◌, Bool, true, false, ◌&&◌, eqb, ltb, List, [], ◌∷◌, ◌++◌, length, get_or, take, drop, sym, refl, ap, ◌∙◌, ap₂, subst₂, inl, inr, add-zero, arith}
 use Rattle.std.proofs.lemmas.List.{append_assoc, append-nil, length-append, length-take-le, take-append-drop, take_at, drop_at, drop_more, set_at}
 use Rattle.std.proofs.lemmas.Bool.{cases_Bool, cases_lt, cases_order, and_parts, both_ways, le-leb, lt-leb, lt-ltb, le-ltb, eq-eqb, ne_eqb, and_left}
 use Rattle.meaning.specs.Text.{Tokens, none, all_written}
-use Rattle.meaning.specs.Pages.{Looks}
+use Rattle.meaning.specs.Pages.{Looks, book}
 use Rattle.meaning.specs.Calls.{Call, put, cut, define, show, where_is, how_many, put_in, Limits, size, sizes, good, call_number, good_fields, good_call, changed, turned_by, told, place}
 use Rattle.meaning.specs.Promise.{GoodLooks, GoodLimits}
 use Rattle.meaning.proofs.Picks.{pick_true, pick_false}
@@ -11,11 +11,14 @@ use Rattle.wire.specs.Stage.{stage_tokens, stage_calls}
 use Rattle.store.specs.Opened.{limits_of, rest_of}
 use Rattle.store.specs.Kept.{limits_at}
 use Rattle.store.specs.Changes.{put_edit, put_in_edit, cut_edit}
-use Rattle.machine.specs.Setter.{edit_of, wish}
+use Rattle.machine.specs.Setter.{to_edit, unfit, wish_of, wish}
 use Rattle.machine.proofs.Memories.{memory, rest_tells}
 use Rattle.machine.proofs.Edits.{edit_for}
 use Rattle.machine.proofs.Fits.{Good, plain}
+use Rattle.layout.specs.Books.{pages_in}
+use Rattle.machine.proofs.InMemory.{pages_there, at_rest_there, none_marked}
 use Rattle.machine.proofs.Steps.{Holds, Step, step_unfit, step_missing, step_edit}
+use Rattle.machine.proofs.Questions.{step_show, step_find, step_count}
 
 place_of_2 : (g : Looks) (ps : List Tokens) (c : Call) → place g (plain ps) c 2 ≡ 0
 unfolding place
@@ -62,10 +65,10 @@ module _ (l : Limits) (g : Looks) (good_looks : GoodLooks g) (small : GoodLimits
   good_call_same rs how_many = rw calls refl
   good_call_same rs (put_in k ts) = rw (tokens, calls) refl
 
-  wish_good : (rs : List ℕ) (c : Call) → good_call l c ≡ true → wish rs c ≡ edit_of rs c
+  wish_good : (rs : List ℕ) (c : Call) → good_call l c ≡ true → wish rs c ≡ wish_of rs c
   wish_good rs c e = pick_true (good_call (limits_of (limits_at rs)) c) _ _ (good_call_same rs c ∙ e)
 
-  wish_bad : (rs : List ℕ) (c : Call) → good_call l c ≡ false → wish rs c ≡ None
+  wish_bad : (rs : List ℕ) (c : Call) → good_call l c ≡ false → wish rs c ≡ unfit
   wish_bad rs c e = pick_false (good_call (limits_of (limits_at rs)) c) _ _ (good_call_same rs c ∙ e)
 
   good_tokens : (b : Bool) (ts : Tokens) → (b && good l.tokens_can ts 16) ≡ true → Good ts
@@ -80,7 +83,7 @@ module _ (l : Limits) (g : Looks) (good_looks : GoodLooks g) (small : GoodLimits
       let long : length all ≡ length ps + suc (length qs) = length-append ps (p ∷ qs) in
       let there : ltb (length ps) (get_or rs 4 0) ≡ true = lt-ltb _ _ (omega (arith, (rest_tells l g all).paragraphs)) in
       step_edit l g good_looks small ps (p ∷ []) qs (ts ∷ []) (put (length ps) ts) h
-      (wish_good rs (put (length ps) ts) can ∙ ap Some (new_edit (length ps) _ (p ∷ []) ts (pick_true _ 1 0 there))) (omega arith) (good_tokens _ ts can, tt) can
+      (wish_good rs (put (length ps) ts) can ∙ ap to_edit (new_edit (length ps) _ (p ∷ []) ts (pick_true _ 1 0 there))) (omega arith) (good_tokens _ ts can, tt) can
       (pick_true _ 0 4 (le-leb _ _ (omega arith)))
       (ap plain (pick_false (eqb (length ps) (length all)) _ _ (ne_eqb _ _ (λ e. omega arith)) ∙ set_at ps p qs ts (length ps) refl)) refl refl
 
@@ -92,7 +95,7 @@ module _ (l : Limits) (g : Looks) (good_looks : GoodLooks g) (small : GoodLimits
       let long : length (ps ++ []) ≡ length ps = ap length (append-nil ps) in
       let past : ltb (length ps) (get_or rs 4 0) ≡ false = le-ltb _ _ (omega (arith, (rest_tells l g (ps ++ [])).paragraphs)) in
       step_edit l g good_looks small ps [] [] (ts ∷ []) (put (length ps) ts) h
-      (wish_good rs (put (length ps) ts) can ∙ ap Some (new_edit (length ps) _ [] ts (pick_false _ 1 0 past))) (omega arith) (good_tokens _ ts can, tt) can
+      (wish_good rs (put (length ps) ts) can ∙ ap to_edit (new_edit (length ps) _ [] ts (pick_false _ 1 0 past))) (omega arith) (good_tokens _ ts can, tt) can
       (pick_true _ 0 4 (le-leb _ _ (omega arith)))
       (ap plain (pick_true (eqb (length ps) (length (ps ++ []))) _ _ (eq-eqb _ _ (sym long)) ∙ ap (λ (us : List Tokens). us ++ (ts ∷ [])) (append-nil ps))) refl refl
 
@@ -122,7 +125,7 @@ module _ (l : Limits) (g : Looks) (good_looks : GoodLooks g) (small : GoodLimits
   unfolding good_fields turned_by changed told place
   put_in_before ps qs ts h can =
       step_edit l g good_looks small ps [] qs (ts ∷ []) (put_in (length ps) ts) h
-      (wish_good (rest_of (memory l g (ps ++ qs))) (put_in (length ps) ts) can ∙ ap Some (new_edit (length ps) 0 [] ts refl)) (omega arith) (good_tokens _ ts can, tt) can
+      (wish_good (rest_of (memory l g (ps ++ qs))) (put_in (length ps) ts) can ∙ ap to_edit (new_edit (length ps) 0 [] ts refl)) (omega arith) (good_tokens _ ts can, tt) can
       (pick_true _ 0 4 (le-leb _ _ (omega (arith, length-append ps qs))))
       (ap plain (ap₂ (λ (us vs : List Tokens). us ++ (ts ∷ vs)) (take_at ps qs (length ps) refl) (drop_at ps qs (length ps) refl))) refl refl
 
@@ -164,14 +167,18 @@ module _ (l : Limits) (g : Looks) (good_looks : GoodLooks g) (small : GoodLimits
         | inr ge ↦ subst₂ P (take-append-drop k ps) (length-take-le k ps ge) (put_in_before (take k ps) (drop k ps) ts) h can
       ]
 
+  -- what is made of memory is what the text means
+  there : (ps : List Tokens) → Holds l ps → pages_in (memory l g ps).tokens (rest_of (memory l g ps)) ≡ (book g [] ps).made
+  there ps h = pages_there l g good_looks ps h.fit h.goods
+
   step_good : (ps : List Tokens) (c : Call) → Holds l ps → good_call l c ≡ true → Step l g ps c
   unfolding stage_calls call_number
   step_good ps (put k ts) h can = put_step ps k ts h can
   step_good ps (cut k) h can = cut_step ps k h can
   step_good ps (define k ts) h can = absurd (cannot (define k ts) refl can)
-  step_good ps (show k r n) h can = absurd (cannot (show k r n) refl can)
-  step_good ps (where_is q) h can = absurd (cannot (where_is q) refl can)
-  step_good ps how_many h can = absurd (cannot how_many refl can)
+  step_good ps (show k r n) h can = step_show l g good_looks small ps h (there ps h) k r n (wish_good (rest_of (memory l g ps)) (show k r n) can) can
+  step_good ps (where_is q) h can = step_find l g good_looks small ps h (there ps h) q (none_marked g ps h.goods q) (wish_good (rest_of (memory l g ps)) (where_is q) can) can
+  step_good ps how_many h can = step_count l g good_looks small ps h (there ps h) (at_rest_there g ps h.goods) (wish_good (rest_of (memory l g ps)) how_many can) can
   step_good ps (put_in k ts) h can = put_in_step ps k ts h can
 
   pub step : (ps : List Tokens) (c : Call) → Holds l ps → Step l g ps c

@@ -5,6 +5,8 @@ pub mod Edits
 pub mod Fits
 pub mod OpenText
 pub mod Steps
+pub mod InMemory
+pub mod Questions
 pub mod ByCall
 pub mod Bounds
 pub mod Promises

@@ -1,5 +1,5 @@
 -- One call, by how it is taken: an edit of the paragraphs, one of a paragraph that is not there, or nothing that the stage can do.
-use Rattle.std.proofs.Common.{◌≡◌, ℕ, ◌+◌, ◌<◌, ◌≤◌, Bool, true, false, eqb, leb, List, [], ◌∷◌, ◌++◌, length, get_or, is_ok, Some, None, Ok, Err, Result, sym, refl, ap, ◌∙◌, inl, inr, arith}
+use Rattle.std.proofs.Common.{◌≡◌, ℕ, ◌+◌, ◌<◌, ◌≤◌, Bool, true, false, eqb, leb, List, [], ◌∷◌, ◌++◌, length, get_or, is_ok, Ok, Err, Result, sym, refl, ap, ◌∙◌, inl, inr, arith}
 use Rattle.std.specs.List.{AllByRecursion as All}
 use Rattle.std.proofs.lemmas.List.{length-append}
 use Rattle.std.proofs.ByRecursion.{All-append}
@@ -14,7 +14,7 @@ use Rattle.wire.specs.declared.refusal.Refusal.TheVariants.{NoParagraph, TooMuch
 use Rattle.store.specs.Opened.{rest_of}
 use Rattle.store.specs.Kept.{is_open}
 use Rattle.store.specs.Changes.{Edit, edited_tokens, edited_rest, editing, has_room}
-use Rattle.machine.specs.Setter.{wish, told_of, says_to, left_by_edit, says, next}
+use Rattle.machine.specs.Setter.{to_edit, unfit, wish, told_of, says_to, left_by_wish, says, next}
 use Rattle.machine.proofs.Memories.{memory, Tells, rest_tells}
 use Rattle.machine.proofs.Edits.{edit_for, room_for, edited_memory}
 use Rattle.machine.proofs.Fits.{Good, plain, fitting, fits_room}
@@ -45,21 +45,21 @@ after_at : (l : Limits) (g : Looks) (t : Text) (c : Call) (n : ℕ) → turned l
 after_at l g t c n e = ap (λ m. pick (eqb m 0) (changed t c) t) e
 
 -- by what the call asks for, and how that goes
-says_by : (m : Memory) (c : Call) (e : Edit) (r : Result (Unit {0}) Refusal) → wish (rest_of m) c ≡ Some e → editing e (length m.tokens) (rest_of m) ≡ r → says m c ≡ told_of r
+says_by : (m : Memory) (c : Call) (e : Edit) (r : Result (Unit {0}) Refusal) → wish (rest_of m) c ≡ to_edit e → editing e (length m.tokens) (rest_of m) ≡ r → says m c ≡ told_of r
 unfolding says
 says_by m c e r asks goes = ap (λ o. says_to o m) asks ∙ ap told_of goes
 
 next_by :
-    (m : Memory) (c : Call) (e : Edit) (r : Result (Unit {0}) Refusal) → wish (rest_of m) c ≡ Some e → editing e (length m.tokens) (rest_of m) ≡ r →
+    (m : Memory) (c : Call) (e : Edit) (r : Result (Unit {0}) Refusal) → wish (rest_of m) c ≡ to_edit e → editing e (length m.tokens) (rest_of m) ≡ r →
     next m c ≡ pick (is_ok r) (record { tokens = edited_tokens e m.tokens m.kept; words = m.words; kept = edited_rest e m.kept }) m
 unfolding next
 next_by m c e r asks goes =
-    ap (λ o. left_by_edit o m) asks
+    ap (λ o. left_by_wish o m) asks
     ∙ ap (λ (s : Result (Unit {0}) Refusal). pick (is_ok s) (record { tokens = edited_tokens e m.tokens m.kept; words = m.words; kept = edited_rest e m.kept }) m) goes
 
 -- nothing that the stage can do
 pub step_unfit :
-    (l : Limits) (g : Looks) (ps : List Tokens) (c : Call) → Holds l ps → wish (rest_of (memory l g ps)) c ≡ None → good_call l c ≡ false → place g (plain ps) c 2 ≡ 0 → Step l g ps c
+    (l : Limits) (g : Looks) (ps : List Tokens) (c : Call) → Holds l ps → wish (rest_of (memory l g ps)) c ≡ unfit → good_call l c ≡ false → place g (plain ps) c 2 ≡ 0 → Step l g ps c
 unfolding says next
 step_unfit l g ps c h asks bad named =
     let m : Memory = memory l g ps in
@@ -67,7 +67,7 @@ step_unfit l g ps c h asks bad named =
     record {
       afterwards = ps;
       means = after_at l g (plain ps) c 2 two;
-      leaves = ap (λ o. left_by_edit o m) asks;
+      leaves = ap (λ o. left_by_wish o m) asks;
       answers_so = ap (λ o. says_to o m) asks ∙ sym (answer_at l g (plain ps) c 2 two ∙ ap (refused 2) named);
       holds = h;
     }
@@ -75,7 +75,7 @@ step_unfit l g ps c h asks bad named =
 module _ (l : Limits) (g : Looks) (good : GoodLooks g) (small : GoodLimits l) where
   -- a paragraph that is not there
   pub step_missing :
-      (ps : List Tokens) (c : Call) (e : Edit) → Holds l ps → wish (rest_of (memory l g ps)) c ≡ Some e → length ps < e.at + e.gone → good_call l c ≡ true →
+      (ps : List Tokens) (c : Call) (e : Edit) → Holds l ps → wish (rest_of (memory l g ps)) c ≡ to_edit e → length ps < e.at + e.gone → good_call l c ≡ true →
       turned_by g (plain ps) c ≡ 4 → place g (plain ps) c 4 ≡ e.at → Step l g ps c
   step_missing ps c e h asks past can four named =
       let m : Memory = memory l g ps in
@@ -93,7 +93,7 @@ module _ (l : Limits) (g : Looks) (good : GoodLooks g) (small : GoodLimits l) wh
 
   -- an edit, if there is room
   pub step_edit :
-      (ps olds qs news : List Tokens) (c : Call) → Holds l (ps ++ (olds ++ qs)) → wish (rest_of (memory l g (ps ++ (olds ++ qs)))) c ≡ Some (edit_for (length ps) olds news) →
+      (ps olds qs news : List Tokens) (c : Call) → Holds l (ps ++ (olds ++ qs)) → wish (rest_of (memory l g (ps ++ (olds ++ qs)))) c ≡ to_edit (edit_for (length ps) olds news) →
       length news ≤ 1 → All Good news → good_call l c ≡ true → turned_by g (plain (ps ++ (olds ++ qs))) c ≡ 0 →
       changed (plain (ps ++ (olds ++ qs))) c ≡ plain (ps ++ (news ++ qs)) → told g (plain (ps ++ (olds ++ qs))) c ≡ done → place g (plain (ps ++ (olds ++ qs))) c 6 ≡ 0 →
       Step l g (ps ++ (olds ++ qs)) c

@@ -56,13 +56,13 @@ decided e o there room = pick o (pick there (pick room (Ok tt) (Err TooMuch)) (E
 
 -- an open book in lent slices, and what is cut out of them
 module _ (ts rs : List ℕ) (open_book : is_open (length ts) rs ≡ true) where
-  parts : OpenParts (length ts) rs
+  pub parts : OpenParts (length ts) rs
   parts = open_parts (length ts) rs open_book
 
   numbers : NumbersOf ts rs (kept_at rs)
   numbers = numbers_at ts rs open_book
 
-  whole : rest_of (memory_in ts rs) ≡ take (rest_asked (limits_in rs)) rs
+  pub whole : rest_of (memory_in ts rs) ≡ take (rest_asked (limits_in rs)) rs
   whole = sym (take-add (kept_asked (limits_in rs)) (words_asked (limits_in rs)) rs)
 
   pub open_cut : is_open (length (memory_in ts rs).tokens) (rest_of (memory_in ts rs)) ≡ true

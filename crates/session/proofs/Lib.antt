@@ -1,4 +1,5 @@
 mod Cuts
 mod Performed
+mod Questions
 mod Wishes
 mod Whole

@@ -1,15 +1,18 @@
--- Each call as the change that it asks for, or as none, and what comes of it.
-use Rattle.std.proofs.Common.{◌≡◌, ℕ, ◌≤◌, Bool, true, false, ltb, List, length, Some, None, Ok, Err, Result, refl, ap, ap₂, sym, ◌∙◌, arith, lit<, Bor}
+-- Each call as what it asks for, or as nothing, and what comes of it.
+use Rattle.std.proofs.Common.{◌≡◌, ℕ, ◌<◌, ◌≤◌, Bool, true, false, ltb, List, length, Some, None, Ok, Err, Result, refl, ap, ap₂, sym, ◌∙◌, arith, lit<, Bor}
 use Rattle.std.specs.Result.{IsErrAnd}
+use Rattle.std.proofs.lemmas.Bool.{le-leb, lt-leb, lt-ltb, le-ltb}
 use Rattle.std.proofs.lemmas.Result.{err_from_is_err_and}
 use Rattle.meaning.specs.Text.{pick, Tokens, all_written}
 use Rattle.meaning.specs.Calls
 use Rattle.meaning.specs.Calls.{good, size}
 use Rattle.meaning.proofs.Picks.{some_picked, none_picked}
-use Rattle.wire.specs.Bytes.{tokens_of}
+use Rattle.wire.specs.Answers.{answer_of, answer_form, outcome}
+use Rattle.wire.specs.Bytes.{over, answer_bytes, tokens_of}
 use Rattle.wire.specs.Fit.{Measures}
 use Rattle.wire.specs.Reads.{Whole}
 use Rattle.wire.specs.Stage.{stage_tokens, stage_calls}
+use Rattle.wire.specs.declared.answer.Answer.{Answer}
 use Rattle.wire.specs.declared.refusal.Refusal.{Refusal}
 use Rattle.wire.specs.declared.refusal.Refusal.TheVariants.{Unfit}
 use Rattle.store.specs.Kept.{is_open}
@@ -20,21 +23,23 @@ use Rattle.store.specs.Edits.{edit_by}
 use Rattle.store.specs.declared.changes.Content.{Content}
 use Rattle.store.specs.declared.changes.Edit.{Edit}
 use Rattle.store.specs.declared.changes.Edit.TheVariants as Edits
-use Rattle.machine.specs.Setter.{wish}
-use Rattle.session.specs.Answering.{memory_in, Wished, Performs}
+use Rattle.machine.specs.Setter.{to_edit, to_show, to_find, unfit, wish, told_of}
+use Rattle.session.specs.Answering.{memory_in, Wished, said, Performs}
+use Rattle.session.specs.declared.answering.Wish.{Wish}
+use Rattle.session.specs.declared.answering.Wish.TheVariants as Wishes
 use Rattle.session.proofs.Cuts.{at_whole}
-use Rattle.session.proofs.Performed.{refused_unfit, performed}
+use Rattle.session.proofs.Performed.{Makes, refused_unfit, performed}
 
 -- a call with tokens asks for a change, if they are good
 pub record Asks (make : Tokens → Calls.Call) (change : Content → Edit) (by : List ℕ → ℕ → List ℕ → Changes.Edit) : Type 0 where
-  pub asked : (ts : Tokens) (b : Bool) → good stage_tokens ts 16 ≡ b → (xs : List ℕ) → wish xs (make ts) ≡ pick b (Some (by (all_written ts) (size ts) xs)) None
+  pub asked : (ts : Tokens) (b : Bool) → good stage_tokens ts 16 ≡ b → (xs : List ℕ) → wish xs (make ts) ≡ pick b (to_edit (by (all_written ts) (size ts) xs)) unfit
   pub same : (new : Content) (xs : List ℕ) → edit_by (change new) xs ≡ by new.bytes.now new.size xs
 
 pub put_asks : (k : ℕ) → Asks (Calls.put k) (Edits.Put k) (put_edit k)
 unfolding stage_calls Calls.call_number Calls.good_fields
 put_asks k =
     record {
-      asked = λ ts b e xs. ap (λ x. pick x (Some (put_edit k (all_written ts) (size ts) xs)) None) e;
+      asked = λ ts b e xs. ap (λ x. pick x (to_edit (put_edit k (all_written ts) (size ts) xs)) unfit) e;
       same = λ new xs. refl;
     }
 
@@ -42,29 +47,55 @@ pub put_in_asks : (k : ℕ) → Asks (Calls.put_in k) (Edits.PutIn k) (λ bs n x
 unfolding stage_calls Calls.call_number Calls.good_fields
 put_in_asks k =
     record {
-      asked = λ ts b e xs. ap (λ x. pick x (Some (put_in_edit k (all_written ts) (size ts))) None) e;
+      asked = λ ts b e xs. ap (λ x. pick x (to_edit (put_in_edit k (all_written ts) (size ts))) unfit) e;
       same = λ new xs. refl;
     }
 
 module _ {make : Tokens → Calls.Call} {change : Content → Edit} {by : List ℕ → ℕ → List ℕ → Changes.Edit} (asks : Asks make change by) (part : Bor (List ℕ)) where
-  pub good_wished : (new : Content) → Whole part → (new.bytes.now ≡ part.now) × Measures part.now 16 (Some new.size) → Wished (make (tokens_of part.now)) (Ok (change new))
+  pub good_wished : (new : Content) → Whole part → (new.bytes.now ≡ part.now) × Measures part.now 16 (Some new.size) → Wished (make (tokens_of part.now)) (Ok (Wishes.Edit (change new)))
   good_wished new whole held =
       let fits = some_picked (good stage_tokens (tokens_of part.now) 16) new.size (size (tokens_of part.now)) held.1.value in
       let same_bytes : all_written (tokens_of part.now) ≡ new.bytes.now = sym (held.0 ∙ whole) in
       record {
-        value = λ xs. asks.asked (tokens_of part.now) true fits.0 xs ∙ ap Some (ap₂ (λ bs n. by bs n xs) same_bytes (sym fits.1) ∙ sym (asks.same new xs));
+        value = λ xs. asks.asked (tokens_of part.now) true fits.0 xs ∙ ap to_edit (ap₂ (λ bs n. by bs n xs) same_bytes (sym fits.1) ∙ sym (asks.same new xs));
+        few = tt;
         refusal = tt;
       }
 
-  pub unfit_wished : (why : Refusal) (r : Result Edit Refusal) → (why ≡ Unfit) × Measures part.now 16 None → IsErrAnd r (λ e. e ≡ why) → Wished (make (tokens_of part.now)) r
+  pub unfit_wished : (why : Refusal) (r : Result Wish Refusal) → (why ≡ Unfit) × Measures part.now 16 None → IsErrAnd r (λ e. e ≡ why) → Wished (make (tokens_of part.now)) r
   unfit_wished why r held so =
       let p = err_from_is_err_and r so in
       let not_good = none_picked (good stage_tokens (tokens_of part.now) 16) (size (tokens_of part.now)) held.1.value in
-      rw (p.1, p.2) (record { value = asks.asked (tokens_of part.now) false not_good; refusal = held.0 })
+      rw (p.1, p.2) (record { value = asks.asked (tokens_of part.now) false not_good; few = tt; refusal = held.0 })
 
-pub cut_wished : (k : ℕ) → Wished (Calls.cut k) (Ok (Edits.Cut k))
+pub cut_wished : (k : ℕ) → Wished (Calls.cut k) (Ok (Wishes.Edit (Edits.Cut k)))
 unfolding stage_calls Calls.call_number Calls.good_fields
-cut_wished k = record { value = λ xs. refl; refusal = tt }
+cut_wished k = record { value = λ xs. refl; few = tt; refusal = tt }
+
+-- a definition is nothing that the stage can do
+pub define_wished : (k : ℕ) (ts : Tokens) → Wished (Calls.define k ts) (Err Unfit)
+unfolding stage_calls Calls.call_number Calls.good_fields
+define_wished k ts = record { value = λ xs. refl; few = tt; refusal = refl }
+
+pub show_wished : (k r n : ℕ) → n ≤ 8 → Wished (Calls.show k r n) (Ok (Wishes.Show (record { page = k; row = r; count = n })))
+unfolding stage_calls Calls.call_number Calls.good_fields
+show_wished k r n l = record { value = λ xs. ap (λ x. pick x (to_show k r n) unfit) (le-leb n 8 l); few = l; refusal = tt }
+
+pub show_unfit : (k r n : ℕ) → 8 < n → Wished (Calls.show k r n) (Err Unfit)
+unfolding stage_calls Calls.call_number Calls.good_fields
+show_unfit k r n l = record { value = λ xs. ap (λ x. pick x (to_show k r n) unfit) (lt-leb n 8 l); few = tt; refusal = refl }
+
+pub find_wished : (q : ℕ) → q ≤ 255 → Wished (Calls.where_is q) (Ok Wishes.Find)
+unfolding stage_calls Calls.call_number Calls.good_fields
+find_wished q l = record { value = λ xs. ap (λ x. pick x to_find unfit) (lt-ltb q 256 (omega arith)); few = tt; refusal = tt }
+
+pub find_unfit : (q : ℕ) → 255 < q → Wished (Calls.where_is q) (Err Unfit)
+unfolding stage_calls Calls.call_number Calls.good_fields
+find_unfit q l = record { value = λ xs. ap (λ x. pick x to_find unfit) (le-ltb q 256 (omega arith)); few = tt; refusal = refl }
+
+pub count_wished : Wished Calls.how_many (Ok Wishes.Count)
+unfolding stage_calls Calls.call_number Calls.good_fields
+count_wished = record { value = λ xs. refl; few = tt; refusal = tt }
 
 -- a change that is made, or a call that asks for none
 one_or_none : (b : Bool) → pick b 1 0 ≤ 1
@@ -87,10 +118,30 @@ module _ (ts rs : List ℕ) (c : Calls.Call) where
   same_edit (Edits.PutIn k new) o = refl
   same_edit (Edits.Cut k) o = refl
 
-  pub changed : (ts' rs' : List ℕ) (edit : Edit) (r : Result (Unit {0}) Refusal) → Wished c (Ok edit) → Changes (edit_by edit rs) ts rs ts' rs' r → Performs ts rs c ts' rs' r
-  changed ts' rs' edit r w ch = performed ts rs ts' rs' c (edit_by edit rs) (edit_by edit) r w.value (same_edit edit) (few_go edit rs) (few_come edit rs) ch
+  -- an edit is answered whether it was made or refused
+  told_outcome : (r : Result (Unit {0}) Refusal) → answer_of (outcome r) ≡ told_of r
+  told_outcome (Ok u) = refl
+  told_outcome (Err why) = refl
 
-  pub unfit : (why : Refusal) (r : Result (Unit {0}) Refusal) → Wished c (Err why) → IsErrAnd r (λ e. e ≡ why) → Performs ts rs c ts rs r
-  unfit why r w so =
+  pub edit_made :
+      {ts' rs' : List ℕ} {edit : Edit} {r : Result (Unit {0}) Refusal} {a : Answer} → Wished c (Ok (Wishes.Edit edit)) → Changes (edit_by edit rs) ts rs ts' rs' r → a ≡ outcome r →
+      Makes ts rs c ts' rs' (answer_of a)
+  edit_made {ts'} {rs'} {edit} {r} {a} w ch answer =
+      rw (answer, told_outcome r) (performed ts rs ts' rs' c (edit_by edit rs) (edit_by edit) r w.value (same_edit edit) (few_go edit rs) (few_come edit rs) ch)
+
+  -- an answer that is written
+  pub written :
+      {ts' rs' out out' : List ℕ} (a : Answer) {n : ℕ} → Makes ts rs c ts' rs' (answer_of a) → n ≡ length (answer_form a) → out' ≡ over (answer_form a) out → Performs ts rs c out ts' rs' out' (Ok n)
+  written {ts'} {rs'} {out} {out'} a {n} made long after =
+      let form : answer_form a ≡ answer_bytes (said ts rs c) = ap answer_bytes made.value in
+      record { told = (long ∙ ap length form, after ∙ ap (λ (xs : List ℕ). over xs out) form); tokens = made.tokens; rest = made.rest }
+
+  -- a refusal that is still to be written
+  pub unwritten :
+      {ts' rs' out : List ℕ} (why : Refusal) {r : Result ℕ Refusal} → Makes ts rs c ts' rs' (told_of (Err why)) → IsErrAnd r (λ e. e ≡ why) → Performs ts rs c out ts' rs' out r
+  unwritten {ts'} {rs'} {out} why {r} made so =
       let p = err_from_is_err_and r so in
-      rw (p.1, p.2, w.refusal) (refused_unfit ts rs c w.value)
+      rw (p.1, p.2) (record { told = (sym made.value, refl); tokens = made.tokens; rest = made.rest })
+
+  pub unfit_made : {why : Refusal} → Wished c (Err why) → Makes ts rs c ts rs (told_of (Err why))
+  unfit_made w = rw w.refusal (refused_unfit ts rs c w.value)

@@ -1,10 +1,12 @@
 -- What a call answers and leaves, for all lent slices and all bytes.
 --   memory_in   the lent slices, cut to what the header asks for
---   Wished      the change that a call asks for, or that it asks for none
+--   Wished      what a call asks for, or that it asks for nothing
 --   said        what a call is answered, by the machine where memory is an open book
 --   left        what it leaves in a slice
+--   Told        an answer that was written, or a refusal that is still to be written
+--   Performs    what carrying out a call gives, and leaves in each slice
 --   Answers     what `call` gives back, and leaves in each slice
-use Rattle.std.specs.Prelude.{◌≡◌, ℕ, min, Bool, List, [], length, take, drop, Some, None, Ok, Err, Option, Result, IfErr, nat_le}
+use Rattle.std.specs.Prelude.{◌≡◌, ℕ, ◌≤◌, min, Bool, List, [], length, take, drop, Some, None, Ok, Err, Option, Result, IfSome, IfOk, IfErr, nat_le}
 use Rattle.meaning.specs.Text.{pick}
 use Rattle.meaning.specs.Calls.{Call, Answer, refused, Limits}
 use Rattle.meaning.specs.Promise.{Memory}
@@ -13,10 +15,11 @@ use Rattle.wire.specs.declared.refusal.Refusal.{Refusal}
 use Rattle.wire.specs.declared.refusal.Refusal.TheVariants.{Unfit}
 use Rattle.store.specs.Opened.{limits_of, tokens_asked, kept_asked, words_asked, rest_of}
 use Rattle.store.specs.Kept.{limits_at, is_open}
-use Rattle.store.specs.Changes
 use Rattle.store.specs.Edits.{edit_by}
-use Rattle.store.specs.declared.changes.Edit.{Edit}
-use Rattle.machine.specs.Setter.{wish, told_of, setter}
+use Rattle.machine.specs.Setter.{to_edit, to_show, to_find, to_count, unfit, wish, told_of, setter}
+use Rattle.machine.specs.Setter
+use Rattle.session.specs.declared.answering.Wish.{Wish}
+use Rattle.session.specs.declared.answering.Wish.TheVariants.{Edit, Show, Find, Count}
 
 abbrev pub limits_in : List ℕ → Limits
 limits_in rs = limits_of (limits_at rs)
@@ -29,19 +32,37 @@ memory_in ts rs =
       kept = take (kept_asked (limits_in rs)) rs;
     }
 
--- the change is the machine's, whatever the numbers are; a call that is none is unfit
-abbrev pub wished : Result Edit Refusal → List ℕ → Option Changes.Edit
-wished (Ok edit) rs = Some (edit_by edit rs)
-wished (Err why) rs = None
+-- as the machine has it, whatever the numbers are
+abbrev pub wish_by : Wish → List ℕ → Setter.Wish
+wish_by (Edit edit) rs = to_edit (edit_by edit rs)
+wish_by (Show wanted) rs = to_show wanted.page wanted.row wanted.count
+wish_by Find rs = to_find
+wish_by Count rs = to_count
 
-pub record Wished (c : Call) (r : Result Edit Refusal) : Type 0 where
+-- a call that asks for nothing is unfit
+abbrev pub wished : Result Wish Refusal → List ℕ → Setter.Wish
+wished (Ok w) rs = wish_by w rs
+wished (Err why) rs = unfit
+
+-- few enough rows for the answer's bytes
+abbrev pub FewRows : Wish → Type 0
+FewRows (Edit edit) = Unit {0}
+FewRows (Show wanted) = wanted.count ≤ 8
+FewRows Find = Unit {0}
+FewRows Count = Unit {0}
+
+pub record Wished (c : Call) (r : Result Wish Refusal) : Type 0 where
   pub value : (rs : List ℕ) → wish rs c ≡ wished r rs
+  pub few : IfOk r FewRows
   pub refusal : IfErr r (λ why. why ≡ Unfit)
 
 -- of memory that is no open book: a call that is no good comes first, by 2, and then that it is none, by 3
-abbrev pub unopened : Option Changes.Edit → Answer
-unopened None = refused 2 0
-unopened (Some e) = refused 3 2
+abbrev pub unopened : Setter.Wish → Answer
+unopened (to_edit e) = refused 3 2
+unopened (to_show k r n) = refused 3 2
+unopened to_find = refused 3 2
+unopened to_count = refused 3 2
+unopened unfit = refused 2 0
 
 abbrev pub said : List ℕ → List ℕ → Call → Answer
 said ts rs c = pick (is_open (length ts) rs) (setter.says (memory_in ts rs) c) (unopened (wish [] c))
@@ -50,9 +71,14 @@ said ts rs c = pick (is_open (length ts) rs) (setter.says (memory_in ts rs) c) (
 abbrev pub left : List ℕ → List ℕ → Call → (Memory → List ℕ) → List ℕ → List ℕ
 left ts rs c part xs = pick (is_open (length ts) rs) (over (part (setter.next (memory_in ts rs) c)) xs) xs
 
--- what making a call gives, and leaves in both slices
-pub record Performs (ts rs : List ℕ) (c : Call) (ts' rs' : List ℕ) (r : Result (Unit {0}) Refusal) : Type 0 where
-  pub value : told_of r ≡ said ts rs c
+-- an answer that was written, as so many bytes, or a refusal that is still to be written
+abbrev pub Told : Result ℕ Refusal → Answer → List ℕ → List ℕ → Type 0
+Told (Ok n) a out out' = (n ≡ length (answer_bytes a)) × (out' ≡ over (answer_bytes a) out)
+Told (Err why) a out out' = (a ≡ told_of (Err why)) × (out' ≡ out)
+
+-- what carrying out a call gives, and leaves in both slices and in the answer's bytes
+pub record Performs (ts rs : List ℕ) (c : Call) (out ts' rs' out' : List ℕ) (r : Result ℕ Refusal) : Type 0 where
+  pub told : Told r (said ts rs c) out out'
   pub tokens : ts' ≡ left ts rs c (λ m. m.tokens) ts
   pub rest : rs' ≡ left ts rs c rest_of rs
 
@@ -68,8 +94,8 @@ left_to ts rs (stops n) part xs = xs
 abbrev pub reply : List ℕ → List ℕ → List ℕ → Answer
 reply ts rs bs = reply_to ts rs (reading bs)
 
-pub record Replies (ts rs bs ts' rs' : List ℕ) (a : Answer) : Type 0 where
-  pub value : a ≡ reply ts rs bs
+pub record Replies (ts rs bs out ts' rs' out' : List ℕ) (r : Result ℕ Refusal) : Type 0 where
+  pub told : Told r (reply ts rs bs) out out'
   pub tokens : ts' ≡ left_to ts rs (reading bs) (λ m. m.tokens) ts
   pub rest : rs' ≡ left_to ts rs (reading bs) rest_of rs
 
@@ -81,3 +107,4 @@ pub record Answers (ts rs bs out ts' rs' out' : List ℕ) (r : Option ℕ) : Typ
   pub after : out' ≡ pick (has_room out) (over (answer_bytes (reply ts rs bs)) out) out
   pub tokens : ts' ≡ pick (has_room out) (left_to ts rs (reading bs) (λ m. m.tokens) ts) ts
   pub rest : rs' ≡ pick (has_room out) (left_to ts rs (reading bs) rest_of rs) rs
+  pub within : IfSome r (λ n. n ≤ length out)

@@ -1,18 +1,34 @@
-// A call is read, looked at by the list of refusals, made, and answered.
-ghost use Rattle.std.specs.Prelude.{◌≡◌, Some, None, MatchResult};
+// A call is read, looked at by the list of refusals, carried out, and answered.
+ghost use Rattle.std.specs.Prelude.{◌≡◌, ◌≤◌, Some, None, MatchResult, length};
 ghost use Rattle.wire.specs.Fit.{Measures};
 ghost use Rattle.wire.specs.Reads.{call_of, WholeTokens};
-ghost use Rattle.machine.specs.Setter.{told_of};
 ghost use Rattle.session.specs.Answering.{Wished, Performs, Replies, Answers};
 
-use store::{Content, Edit, change};
+use layout::{Wanted, count_pages, show_rows};
+use store::{Content, Edit, change, look};
 use wire::{Answer, Call, Refusal, read_call, tokens_size, write_answer};
 
 // What the longest answer takes: 8 rows of 4,096 letters, each with its place.
 pub const ROOM: usize = 163_858;
 
+// How many rows may be shown at once.
+const MOST_ROWS: u16 = 8;
+
+const LAST_NAME: u16 = 255;
+
 // How deep tokens may be nested.
 const DEPTH: u8 = 16;
+
+// What a call asks of the book.
+#[derive(Clone, Copy)]
+enum Wish<'a> {
+    Edit(Edit<'a>),
+    Show(Wanted),
+    // on which page a name is: no text has names yet
+    Find,
+    // how many pages there are
+    Count,
+}
 
 // Tokens that the stage can do, with what they count.
 fn content(bytes: &[u8]) -> Result<Content<'_>, Refusal>
@@ -22,33 +38,60 @@ fn content(bytes: &[u8]) -> Result<Content<'_>, Refusal>
     Ok(Content { bytes, size })
 }
 
-// The change that a call asks for, if it is one that the stage can do.
-fn edit_of(call: Call<'_>) -> Result<Edit<'_>, Refusal>
+// What is asked for, if the stage can do it and its numbers are in range.
+fn wish_of(call: Call<'_>) -> Result<Wish<'_>, Refusal>
     requires { WholeTokens call }
     ensures { Wished (call_of call.entry) result }
 {
     match call {
-        Call::Put(k, bytes) => Ok(Edit::Put(k, content(bytes)?)),
-        Call::PutIn(k, bytes) => Ok(Edit::PutIn(k, content(bytes)?)),
-        Call::Cut(k) => Ok(Edit::Cut(k)),
+        Call::Put(k, bytes) => Ok(Wish::Edit(Edit::Put(k, content(bytes)?))),
+        Call::PutIn(k, bytes) => Ok(Wish::Edit(Edit::PutIn(k, content(bytes)?))),
+        Call::Cut(k) => Ok(Wish::Edit(Edit::Cut(k))),
+        Call::Show(page, row, count) if count <= MOST_ROWS => Ok(Wish::Show(Wanted {
+            page,
+            row,
+            count: count as u8,
+        })),
+        Call::WhereIs(name) if name <= LAST_NAME => Ok(Wish::Find),
+        Call::HowMany => Ok(Wish::Count),
         _ => Err(Refusal::Unfit),
     }
 }
 
-// A call that the stage can do, made on the book.
-fn perform(tokens: &mut [u8], rest: &mut [u64], call: Call<'_>) -> Result<(), Refusal>
-    requires { WholeTokens call }
-    ensures { Performs tokens.old rest.old (call_of call.entry) tokens.new rest.new result }
+// How many bytes of an answer were written.
+fn perform(
+    tokens: &mut [u8],
+    rest: &mut [u64],
+    call: Call<'_>,
+    out: &mut [u8],
+) -> Result<usize, Refusal>
+    requires { (WholeTokens call) × (163858 ≤ length out.old) }
+    ensures { Performs tokens.old rest.old (call_of call.entry) out.old tokens.new rest.new out.new result }
 {
-    let edit = edit_of(call)?;
-    change(tokens, rest, edit)
+    let answer = match wish_of(call)? {
+        Wish::Edit(edit) => Answer::from(change(tokens, rest, edit)),
+        Wish::Show(wanted) => return show_rows(tokens, rest, wanted, out),
+        Wish::Find => {
+            look(tokens, rest).ok_or(Refusal::BadOpening)?;
+            Answer::Numbers(0, 0)
+        }
+        // 1, as all page numbers are right: there are none yet.
+        Wish::Count => Answer::Numbers(count_pages(tokens, rest)?, 1),
+    };
+    Ok(write_answer(out, answer))
 }
 
-fn carry_out(tokens: &mut [u8], rest: &mut [u64], bytes: &[u8]) -> Result<(), Refusal>
-    ensures { Replies tokens.old rest.old bytes.now tokens.new rest.new (told_of result) }
+fn carry_out(
+    tokens: &mut [u8],
+    rest: &mut [u64],
+    bytes: &[u8],
+    out: &mut [u8],
+) -> Result<usize, Refusal>
+    requires { 163858 ≤ length out.old }
+    ensures { Replies tokens.old rest.old bytes.now out.old tokens.new rest.new out.new result }
 {
     let call = read_call(bytes)?;
-    perform(tokens, rest, call)
+    perform(tokens, rest, call, out)
 }
 
 // How many bytes the answer has; None, and nothing is written, where `out` has no room for the longest answer.
@@ -58,6 +101,8 @@ pub fn call(tokens: &mut [u8], rest: &mut [u64], bytes: &[u8], out: &mut [u8]) -
     if out.len() < ROOM {
         return None;
     }
-    let answer = Answer::from(carry_out(tokens, rest, bytes));
-    Some(write_answer(out, answer))
+    match carry_out(tokens, rest, bytes, out) {
+        Ok(written) => Some(written),
+        Err(why) => Some(write_answer(out, Answer::Refused(why))),
+    }
 }

@@ -1,5 +1,6 @@
 // Elements of a lent slice that give way to others; what stands behind them moves up or down.
 ghost use Rattle.std.specs.Prelude.{◌≡◌, ◌+◌, ◌-◌, ◌≤◌, length, replicate};
+ghost use Rattle.std.specs.List.{copy_within};
 ghost use Rattle.store.specs.Splices.{replaced, FitsSplice};
 
 use std::ops::Range;
@@ -13,6 +14,16 @@ fn wipe<T: Copy>(xs: &mut [T], blank: T)
     }
 }
 
+// Most changes of an entry move nothing, and a large table would be copied over itself.
+fn shift<T: Copy>(xs: &mut [T], from: Range<usize>, to: usize)
+    requires { (from.start ≤ from.end) × ((from.end ≤ length xs.old) × (to + (from.end - from.start) ≤ length xs.old)) }
+    ensures { xs.new ≡ copy_within xs.old from.start from.end to }
+{
+    if to != from.start {
+        xs.copy_within(from, to);
+    }
+}
+
 // What is `gone` gives way to the new elements; those behind it, up to `end`, follow, and what is freed is blank.
 // No `T::default()`: the contract would have to speak of any value of which that type's law of defaults holds.
 pub(crate) fn splice<T: Copy>(xs: &mut [T], gone: Range<usize>, end: usize, new: &[T], blank: T)
@@ -21,7 +32,7 @@ pub(crate) fn splice<T: Copy>(xs: &mut [T], gone: Range<usize>, end: usize, new:
 {
     let behind = gone.start + new.len();
     let left = behind + (end - gone.end);
-    xs.copy_within(gone.end..end, behind);
+    shift(xs, gone.end..end, behind);
     wipe(&mut xs[left..left.max(end)], blank);
     xs[gone.start..behind].copy_from_slice(new);
 }

@@ -1,6 +1,7 @@
 pub mod Calls
 pub mod Entries
 pub mod Laws
+pub mod Lines
 pub mod Messages
 pub mod Reading
 pub mod Rows

@@ -1,4 +1,4 @@
-// What files of calls and answers say as text: lines that open a book and lines that are calls are read, and answers are shown.
+// What files of calls and answers say as text: lines that open a book and lines that are calls are read, and answers are heard and shown.
 #![tactic(auto)]
 
 mod call;
@@ -6,6 +6,7 @@ mod entry;
 mod fault;
 mod hex;
 mod laws;
+mod line;
 mod outcome;
 mod reader;
 mod rows;
@@ -17,7 +18,8 @@ pub use call::Question;
 pub use entry::{Entry, read_entry};
 pub use fault::Fault;
 pub use laws::{answers_shown, lines_formed};
-pub use outcome::Outcome;
+pub use line::without_end;
+pub use outcome::{Outcome, Refused};
 pub use reader::{Reader, Step};
-pub use rows::{Letter, Letters};
-pub use shown::Shown;
+pub use rows::{EachRow, Letter, Letters, Rows};
+pub use shown::{Heard, Shown, hear};

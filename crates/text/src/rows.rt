@@ -73,7 +73,7 @@ impl fmt::Display for Letters<'_> {
 
 // The rows that bytes begin with, one behind another.
 #[derive(Drop)]
-struct EachRow<'a>(&'a [u8]);
+pub struct EachRow<'a>(pub &'a [u8]);
 
 impl<'a> Iterator for EachRow<'a> {
     type Item = Letters<'a>;
@@ -93,7 +93,7 @@ impl<'a> Iterator for EachRow<'a> {
 }
 
 // Just so many rows. The count is read of the answer and shown as it is; with it in the slice, showing would have to split it off, and have a case for no bytes.
-#[derive(Clone, Copy)]
+#[derive(Clone, Copy, Debug, PartialEq, Eq)]
 pub struct Rows<'a> {
     pub count: u8,
     pub bytes: &'a [u8],

@@ -10,8 +10,8 @@ use std::fmt;
 use wire::AnswerKind;
 
 // What an answer says.
-#[derive(Clone, Copy)]
-enum Heard<'a> {
+#[derive(Clone, Copy, Debug, PartialEq, Eq)]
+pub enum Heard<'a> {
     Done,
     Refused(Refused),
     Rows(Rows<'a>),
@@ -46,7 +46,7 @@ fn hear_numbers(bytes: &[u8]) -> Option<Heard<'_>>
 
 // None where bytes are no answer.
 #[tactic(auto, unfolding(crate::specs::Shown::answer_in))]
-fn hear(bytes: &[u8]) -> Option<Heard<'_>>
+pub fn hear(bytes: &[u8]) -> Option<Heard<'_>>
     ensures { heard result ≡ answer_in bytes.now }
 {
     let (kind, fields) = bytes.split_first()?;

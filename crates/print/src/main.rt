@@ -1,16 +1,20 @@
 // Reads a book from a file, or from standard input, and prints its pages as rows of characters.
+#![tactic(auto)]
+
 use input::read_book;
 use pages::print_pages;
-use std::io::{BufRead, BufReader};
+use std::io::Read;
 use std::{env, fs, io};
 
-mod answer;
 mod book;
+mod failure;
 mod input;
 mod lines;
 mod pages;
 mod paragraph;
 mod row;
+#[cfg(test)]
+mod tests;
 
 const HELP: &str = "\
 print [FILE]
@@ -44,27 +48,37 @@ Each page is printed as a line with its number and then its rows; four blank dot
 A last line says `not at rest` where page numbers in the text could not be made right.
 What can't be read, or is refused, ends the program with status 1, and its line is told on standard error.";
 
-fn print_book<B: BufRead + Drop>(rt: &HostRuntime, input: B) -> io::Result<()> {
-    let mut book = read_book(rt, input)?;
-    print_pages(rt, &mut book)
+fn print_book(rt: &HostRuntime, input: &[u8]) -> io::Result<()> {
+    match read_book(rt.alloc(), input) {
+        Ok(mut book) => print_pages(rt, &mut book),
+        Err(failure) => failure.tell(rt),
+    }
+}
+
+fn print_input(rt: &HostRuntime) -> io::Result<()> {
+    let mut input = Vec::new(rt.alloc());
+    rt.stdin().read_to_end(&mut input)?;
+    print_book(rt, &input)
+}
+
+fn print_file(rt: &HostRuntime, path: &str) -> io::Result<()> {
+    match fs::read(rt, path) {
+        Ok(input) => print_book(rt, &input),
+        Err(error) => {
+            eprintln!(rt; "{path}: {error}")?;
+            Err(error)
+        }
+    }
 }
 
 fn main(rt: HostRuntime) -> io::Result<()> {
     let mut args = env::args(&rt)?;
     args.next();
-    match args.next() {
-        None => print_book(&rt, BufReader::new(rt.alloc(), rt.stdin())?),
-        Some(name) => {
-            if name.as_str() == "--help" {
-                return println!(rt; "{HELP}");
-            }
-            match fs::open(&rt, name.as_str()) {
-                Ok(file) => print_book(&rt, BufReader::new(rt.alloc(), file)?),
-                Err(error) => {
-                    eprintln!(rt; "{name}: {error}")?;
-                    Err(error)
-                }
-            }
-        }
+    let Some(arg) = args.next() else {
+        return print_input(&rt);
+    };
+    match arg.as_str() {
+        "--help" => println!(rt; "{HELP}"),
+        path => print_file(&rt, path),
     }
 }
