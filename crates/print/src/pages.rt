@@ -2,14 +2,11 @@
 use crate::book::{Book, Denied};
 use crate::row::Row;
 use std::io;
-use text::{EachRow, Rows};
-use wire::LETTERS;
+use text::{EachRow, Refused, Rows};
+use wire::{LETTERS, Refusal};
 
 // The most rows that a call may ask for.
 const ROWS_AT_ONCE: u16 = 8;
-
-// By this number rows are refused that a page does not have.
-const NO_ROWS: u8 = 5;
 
 // Shows what came in place of the answer that was due. The error is to end the program.
 fn tell(rt: &HostRuntime, denied: Denied) -> io::Result<()> {
@@ -34,13 +31,14 @@ fn print_blanks(rt: &HostRuntime, count: u16) -> io::Result<()> {
 // So many rows of a page from one on, blank where it has no more: it does not tell how many it has, but refuses rows beyond.
 fn print_part(rt: &HostRuntime, book: &mut Book, page: u32, row: u16, most: u16) -> io::Result<()> {
     let widths = book.looks.widths;
+    let no_rows = Refused::from(Refusal::NoRows(row.into()));
     for count in (1..=most).rev() {
         match book.show(page, row, count) {
             Ok(rows) => {
                 print_rows(rt, rows, &widths)?;
                 return print_blanks(rt, most.saturating_sub(count));
             }
-            Err(Denied::Refused(refused)) if refused.number == NO_ROWS => {}
+            Err(Denied::Refused(refused)) if refused == no_rows => {}
             Err(denied) => return tell(rt, denied),
         }
     }

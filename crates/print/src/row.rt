@@ -2,6 +2,7 @@
 use std::fmt;
 use text::{Letter, Letters};
 use wire::LETTERS;
+use words::letter_width;
 
 // How many dots a space stands for.
 const DOTS: u32 = 4;
@@ -39,10 +40,8 @@ pub(crate) struct Row<'a> {
 impl Row<'_> {
     // Where a letter ends.
     fn end(&self, letter: Letter) -> u32 {
-        let k = usize::from(letter.what.saturating_sub(32));
-        let widths = self.widths;
-        let width = widths.get(k).copied().unwrap_or(0);
-        letter.at.saturating_add(u32::from(width))
+        let width = letter_width(self.widths, u64::from(letter.what));
+        letter.at.saturating_add(width as u32)
     }
 }
 
