@@ -10,3 +10,4 @@ pub mod Questions
 pub mod ByCall
 pub mod Bounds
 pub mod Promises
+pub mod NoBooks

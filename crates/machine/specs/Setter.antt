@@ -2,7 +2,8 @@
 --   Wish       what a call asks of the book: an edit, a question, or nothing that the stage can do
 --   shown_in   rows of a page, as the book in memory has them
 --   setter     the machine that the main promise is about
-use Rattle.std.specs.Prelude.{ℕ, ◌+◌, ◌*◌, List, length, take, drop, is_ok, Ok, Err, Result, nat_le, nat_lt, slice_index}
+--   NoBook     memory that is no open book refuses every call, and stays as it was
+use Rattle.std.specs.Prelude.{◌≡◌, ℕ, ◌+◌, ◌*◌, false, List, length, take, drop, is_ok, Ok, Err, Result, nat_le, nat_lt, slice_index}
 use Rattle.meaning.specs.Text.{pick, all_written}
 use Rattle.meaning.specs.Calls.{Call, put, cut, define, show, where_is, how_many, put_in, Answer, done, refused, rows, numbers, size, good_call, page_rows}
 use Rattle.meaning.specs.Promise.{Memory, Setter}
@@ -82,3 +83,9 @@ next m c = left_by_wish (wish (rest_of m) c) m
 
 abbrev pub setter : Setter
 setter = record { opened = opened; next = next; says = says }
+
+-- what is not good is refused by 2 there too, and all else by 3
+abbrev pub NoBook : Type 0
+NoBook =
+    (m : Memory) (c : Call) → is_open (length m.tokens) (rest_of m) ≡ false →
+    (next m c ≡ m) × (says m c ≡ pick (good_call (limits_of (limits_at (rest_of m))) c) (refused 3 2) (refused 2 0))

@@ -3,7 +3,7 @@
 
 ghost use Rattle.meaning.specs.Promise.{Right, RefusalKeeps, EnoughMemory};
 ghost use Rattle.meaning.specs.Calls.{thin_tokens, thin_calls};
-ghost use Rattle.machine.specs.Setter.{setter};
+ghost use Rattle.machine.specs.Setter.{setter, NoBook};
 
 // For every list of calls, each answer is that of the text as the calls left it, set from nothing.
 pub fn right()
@@ -18,4 +18,9 @@ pub fn refusal_keeps()
 // Memory stays as large as the limits ask for, and holds bytes and numbers of 64 bits.
 pub fn enough_memory()
     ensures { EnoughMemory setter }
+{}
+
+// Where memory is no open book, every call is refused, and memory stays as it was.
+pub fn no_book()
+    ensures { NoBook }
 {}

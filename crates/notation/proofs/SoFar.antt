@@ -5,7 +5,7 @@ use Rattle.notation.specs.declared.fault.Fault.{Fault}
 use Rattle.notation.specs.declared.fault.Fault.TheVariants.{Unclosed}
 use Rattle.notation.specs.declared.piece.Piece.{Piece}
 use Rattle.notation.specs.declared.piece.Piece.TheVariants.{Letter, Space, Mark, PageOf, Note, Command, Given, Close}
-use Rattle.notation.specs.Pieces.{form_of, depth_after, first_piece, piece_of}
+use Rattle.notation.specs.Pieces.{form_of, depth_after, first_piece, piece_of, TakesPiece}
 use Rattle.notation.specs.Noted.{all_closed, piece_then, noted_from}
 use Rattle.notation.specs.Steps.{then, in_front}
 use Rattle.notation.proofs.Thens.{in_front_nothing, in_front_both}
@@ -50,8 +50,8 @@ piece_shorter [] p rest e = cc
 piece_shorter (b ∷ bs) p rest e = omega (arith, first_shorter b bs p rest (cc))
 
 module _ (text before : List ℕ) (depth : ℕ) (left after : List ℕ) (so : SoFar text before depth left after) where
-  pub so_far_fault : (e : Fault) → piece_of left ≡ Some (Err e) → noted_from 0 text ≡ Err e
-  so_far_fault e is = sym so.same ∙ ap (in_front so.said) (noted_by depth left (Err e) is)
+  pub so_far_fault : (e : Fault) (rest : List ℕ) → TakesPiece left (Some (Err e)) rest → noted_from 0 text ≡ Err e
+  so_far_fault e rest is = sym so.same ∙ ap (in_front so.said) (noted_by depth left (Err e) is.0)
 
   module _ (p : Piece) (rest : List ℕ) (is : piece_of left ≡ Some (Ok (p, rest))) where
     so_far_by : in_front so.said (piece_then noted_from depth (p, rest)) ≡ noted_from 0 text

@@ -3,7 +3,7 @@
 --   depth_after   how many braces are open behind a piece
 --   first_piece   the piece that a text begins with, and what stands behind it
 --   piece_of      the same of a whole text; None at its end
---   TakesPiece    the same where it is taken from the text
+--   TakesPiece    the same where it is taken from the text; at its end nothing is left, and nothing behind a fault
 use Rattle.std.specs.Prelude.{◌≡◌, ℕ, zero, suc, cond, ◌||◌, List, [], ◌∷◌, take, drop, Some, None, Ok, Err, codes, Option, Result, ◌==◌}
 use Rattle.std.specs.Str.{bytes_eq}
 use Rattle.notation.specs.declared.fault.Fault.{Fault}
@@ -66,6 +66,6 @@ piece_of [] = None
 piece_of (b ∷ bs) = Some (first_piece b bs)
 
 abbrev pub TakesPiece : List ℕ → Option (Result Piece Fault) → List ℕ → Type 0
-TakesPiece bs None rest = piece_of bs ≡ None
+TakesPiece bs None rest = (piece_of bs ≡ None) × (rest ≡ bs)
 TakesPiece bs (Some (Ok p)) rest = piece_of bs ≡ Some (Ok (p, rest))
-TakesPiece bs (Some (Err e)) rest = piece_of bs ≡ Some (Err e)
+TakesPiece bs (Some (Err e)) rest = (piece_of bs ≡ Some (Err e)) × (rest ≡ [])

@@ -78,7 +78,7 @@ pub struct EachRow<'a>(pub &'a [u8]);
 impl<'a> Iterator for EachRow<'a> {
     type Item = Letters<'a>;
 
-    ghost next_gives = { λ s r t. MatchOption r (row_first s.0.now ≡ None) (λ row. row_first s.0.now ≡ Some (row.0.now, t.0.now)) };
+    ghost next_gives = { λ s r t. MatchOption r ((row_first s.0.now ≡ None) × (t.0.now ≡ s.0.now)) (λ row. row_first s.0.now ≡ Some (row.0.now, t.0.now)) };
 
     ghost remaining = { λ s. at_most (length s.0.now) };
 

@@ -19,7 +19,7 @@ returns-in_err-piece c =
     let p = err_from_is_err_and c.from_residual.result c.from_residual.ensures.1 in
     rw (p.1, p.2)
     (inr (not_none (goal.at.returns-in_err-piece c).Else-says_none
-    ∙ so_far_fault _ _ _ _ _ c.loop-piece.invariant _ (rw c.in_err-piece.was at c.in-Some.ensures.steps)))
+    ∙ so_far_fault _ _ _ _ _ c.loop-piece.invariant _ _ (rw c.in_err-piece.was at c.in-Some.ensures.steps)))
 
 pub returns-in_err-depth : goal.returns-in_err-depth
 returns-in_err-depth c =
@@ -34,9 +34,9 @@ loop-piece-preserved c =
 
 pub returns-then-depth-gt0 : goal.returns-then-depth-gt0
 returns-then-depth-gt0 c =
-    inr (not_none (goal.at.returns-then-depth-gt0 c).Else-says_none ∙ so_far_open _ _ _ _ _ c.loop-piece.invariant c.in-None.ensures.steps c.if-depth-gt0.true)
+    inr (not_none (goal.at.returns-then-depth-gt0 c).Else-says_none ∙ so_far_open _ _ _ _ _ c.loop-piece.invariant c.in-None.ensures.steps.0 c.if-depth-gt0.true)
 
 pub returns : goal.returns
 returns c =
-    let all = so_far_all _ _ _ _ _ c.loop-piece.invariant c.in-None.ensures.steps (omega (arith, c.if-depth-gt0.false)) in
+    let all = so_far_all _ _ _ _ _ c.loop-piece.invariant c.in-None.ensures.steps.0 (omega (arith, c.if-depth-gt0.false)) in
     (all.0, not_none (goal.at.returns c).Else-says_none ∙ all.1, all.2)

@@ -7,7 +7,7 @@ use Rattle.text.proofs.rows.Rows.of.Goals.{After-is_empty}
 
 pub returns-in_err-next : goal.returns-in_err-next
 returns-in_err-next c =
-    let broken = rows_broken c.in_ok-count.count.now c.loop.counter c.loop.rows.0.now c.loop-test.true (sym c.in_err-next.ensures.steps) in
+    let broken = rows_broken c.in_ok-count.count.now c.loop.counter c.loop.rows.0.now c.loop-test.true (sym c.in_err-next.ensures.steps.0) in
     let none = None-if_not_some _ (sym c.loop.invariant ∙ broken) in
     rw (c.from_residual-in_err-next.ensures, c.in_ok-count.ensures.cases.0, none) refl
 

@@ -33,6 +33,6 @@ returns-clause-writes g c =
     shows_mapped took _ _ (Ok tt) rows_text (rows_in rows.count rows.bytes.now) (λ rs e plain ok.
     let so = c.loop-row.invariant rs e in
     let head = c.write.ensures.writes plain (ap is_ok c.in_ok-write.was) in
-    let lines = left_all took _ _ _ _ so.2 (ap lines_text (rows_over c.loop-row.row-iterator.0.now so.0 so.1 (sym c.in-None.ensures.steps))) head.plain in
+    let lines = left_all took _ _ _ _ so.2 (ap lines_text (rows_over c.loop-row.row-iterator.0.now so.0 so.1 (sym c.in-None.ensures.steps.0))) head.plain in
     let text = append_assoc (codes "rows ") (decimal rows.count) (lines_text rs) ∙ ap (λ n. codes "rows " ++ (decimal n ++ lines_text rs)) (sym (length_rows rows.count rows.bytes.now rs e)) in
     has_written_of_eq took _ _ _ _ text (has_written_append took _ _ _ _ _ head lines))
