@@ -23,13 +23,17 @@ static int64_t call(const uint8_t *bytes, size_t n) {
     return setter_call(tokens, sizeof tokens, rest, sizeof rest / sizeof *rest, bytes, n, out, sizeof out);
 }
 
-/* A text of letters and single spaces becomes paragraph k. */
+/* A text of letters and single spaces, with notes in braces, becomes paragraph k. */
 static int64_t put(unsigned k, const char *text) {
     uint8_t bytes[3 + 2 * 1000] = {0, k >> 8, k & 255};
     size_t n = 3;
     for (; *text && n + 2 <= sizeof bytes; text++) {
         if (*text == ' ') {
             bytes[n++] = 1;
+        } else if (*text == '{') {
+            bytes[n++] = 4;
+        } else if (*text == '}') {
+            bytes[n++] = 7;
         } else {
             bytes[n++] = 0;
             bytes[n++] = (uint8_t)*text;
@@ -75,7 +79,7 @@ int main(void) {
                                      DEFINITIONS, BULK, widths, 95, WIDTH, ROWS)))
         return 1;
     told("first paragraph", put(0, "Be it enacted that every bill be set in lines of one width, broken the best way for the whole paragraph."));
-    told("second paragraph", put(1, "A page has so many rows, and a row is asked for by its number."));
+    told("second paragraph", put(1, "A page has so many rows,{Those of its notes at the foot are behind those of its lines.} and a row is asked for by its number."));
     told("a paragraph past the last", put(7, "nowhere"));
     told("bytes that are no call", call((const uint8_t[]){5, 5}, 2));
     for (unsigned row = 0; told("that was all", show(0, row, 1)); row++)

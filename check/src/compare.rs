@@ -159,7 +159,7 @@ impl Failure {
                 write_tokens(tokens, &mut calls[at]);
                 differs(&calls)
             };
-            let tokens = fewer(tokens, &mut with);
+            let tokens = fewer_tokens(tokens, &mut with);
             with(&tokens);
         }
         Failure::replayed(&opening, &calls).expect("something differs still")
@@ -183,6 +183,23 @@ fn fewer<T: Clone>(mut items: Vec<T>, mut will_do: impl FnMut(&[T]) -> bool) -> 
         part /= 2;
     }
     items
+}
+
+/// Leaves out what can be left out of tokens, and of what is in their notes.
+fn fewer_tokens(tokens: Vec<Token>, will_do: &mut dyn FnMut(&[Token]) -> bool) -> Vec<Token> {
+    let mut tokens = fewer(tokens, &mut *will_do);
+    for at in 0..tokens.len() {
+        let Token::Note(inside) = tokens[at].clone() else {
+            continue;
+        };
+        let mut with = |inside: &[Token]| {
+            tokens[at] = Token::Note(inside.to_vec());
+            will_do(&tokens)
+        };
+        let inside = fewer_tokens(inside, &mut with);
+        tokens[at] = Token::Note(inside);
+    }
+    tokens
 }
 
 impl Display for Failure {

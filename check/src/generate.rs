@@ -1,8 +1,8 @@
 //! Random books, and random calls on them.
 
-use crate::model::{Book, Limits, Looks, Memory};
+use crate::model::{self, Book, Limits, Looks, Memory};
 use crate::random::Random;
-use crate::wire::{Answer, Call, Token};
+use crate::wire::{Call, Token};
 
 /// What a book is opened with.
 #[derive(Clone, Copy, Debug)]
@@ -146,10 +146,15 @@ pub struct Caller {
     /// How many tokens a usual paragraph has at most, and letters a usual word.
     longest: u32,
     word: u32,
+    /// How many notes a usual paragraph has at most.
+    notes: u32,
     growing: bool,
-    /// How many pages there were when it was last asked.
-    pages: u32,
+    /// How many rows each page had when it was last asked how many there are.
+    pages: Vec<u32>,
 }
+
+/// How a paragraph is measured: by `model::size` or `model::bulk`.
+type Measure = fn(&[Token]) -> u32;
 
 impl Caller {
     /// The same book and the same calls for the same seed and number.
@@ -182,8 +187,9 @@ impl Caller {
             alphabet,
             longest: kind.longest(&mut random),
             word: random.pick(&[1, 3, 3, 6, 15]),
+            notes: random.pick(&[0, 1, 3, 3, 10]),
             growing: true,
-            pages: 0,
+            pages: Vec::new(),
             random,
         }
     }
@@ -223,9 +229,10 @@ impl Caller {
         odd
     }
 
-    pub fn heard(&mut self, call: &[u8], answer: &Answer) {
-        if let (&[5], Answer::Numbers(pages, _)) = (call, answer) {
-            self.pages = *pages;
+    /// A call was answered of this book.
+    pub fn heard(&mut self, call: &[u8], book: &Book) {
+        if call == Call::HowMany.bytes() {
+            self.pages = book.rows_of_pages();
         }
     }
 
@@ -251,8 +258,8 @@ impl Caller {
 
     fn question(&mut self, book: &Book) -> Call {
         match self.random.up_to(19) {
-            0 if self.pages == 0 => self.show(book.looks().rows),
-            1..=13 if self.pages > 0 => self.show(book.looks().rows),
+            0 if self.pages.is_empty() => self.show(book.looks().rows),
+            1..=13 if !self.pages.is_empty() => self.show(book.looks().rows),
             0..=18 => Call::HowMany,
             _ => Call::WhereIs {
                 name: self.random.pick(&[0, 1, 7, 255, 256, 65_535]),
@@ -260,8 +267,9 @@ impl Caller {
         }
     }
 
+    /// Rows of a page, which has so many where nothing else is known.
     fn show(&mut self, rows: u32) -> Call {
-        let pages = self.pages;
+        let pages = self.pages.len() as u32;
         let random = &mut self.random;
         let page = match random.up_to(24) {
             0 => pages,
@@ -270,11 +278,8 @@ impl Caller {
             3..=5 => pages.saturating_sub(1),
             _ => random.up_to(pages.saturating_sub(1)),
         };
-        // the last page may have fewer
-        let rows = match page.saturating_add(1) < pages {
-            true => rows,
-            false => rows.min(random.pick(&[1, 1, 2, 4, 255])),
-        };
+        let known = self.pages.get(page as usize);
+        let rows = known.copied().unwrap_or(rows);
         let row = match random.up_to(19) {
             0 => random.pick(&[rows, rows + 1, 255, 256, 65_535]),
             1..=4 => rows.saturating_sub(random.between(1, 9)),
@@ -347,32 +352,117 @@ impl Caller {
 
     /// The tokens of a paragraph; seldom one of them can't be done.
     fn tokens(&mut self, book: &Book) -> Vec<Token> {
-        let count = self.count(book);
-        let mut tokens = self.plain(count);
+        let (count, measure) = self.count(book);
+        let mut tokens = self.with_notes(count, measure);
         if self.random.one_in(20) {
-            let at = self.random.up_to(count) as usize;
             let strange = self.strange();
-            tokens.insert(at, strange);
+            let inside = self.inside_of_any(&mut tokens);
+            let at = self.random.up_to(inside.len() as u32) as usize;
+            inside.insert(at, strange);
         }
         tokens
     }
 
-    /// How many tokens: sometimes just as many as fit, or one more.
-    fn count(&mut self, book: &Book) -> u32 {
+    /// How many tokens, and by what measure: sometimes just as many as fit, or one more.
+    fn count(&mut self, book: &Book) -> (u32, Measure) {
         let limits = book.limits();
         let most = 600.max(self.longest);
-        let count = match self.random.up_to(19) {
-            0 => limits.bulk,
-            1 => limits.bulk + 1,
-            2 => limits.tokens - book.tokens(),
-            3 => limits.tokens - book.tokens() + 1,
-            4 | 5 => self.random.up_to(3),
-            _ if self.kind == Kind::Large => self.random.between(3_000, 4_096),
-            _ => self.random.up_to(self.longest),
+        let (count, measure): (u32, Measure) = match self.random.up_to(19) {
+            0 => (limits.bulk, model::bulk),
+            1 => (limits.bulk + 1, model::bulk),
+            2 => (limits.tokens - book.tokens(), model::size),
+            3 => (limits.tokens - book.tokens() + 1, model::size),
+            4 | 5 => (self.random.up_to(3), model::size),
+            _ if self.kind == Kind::Large => (self.random.between(3_000, 4_096), model::bulk),
+            _ => (self.random.up_to(self.longest), model::size),
         };
         match count <= most + 1 {
-            true => count,
-            false => self.random.up_to(self.longest),
+            true => (count, measure),
+            false => (self.random.up_to(self.longest), measure),
+        }
+    }
+
+    /// Letters, spaces and notes, so many by this measure.
+    fn with_notes(&mut self, count: u32, measure: Measure) -> Vec<Token> {
+        let (wanted, most) = match self.random.up_to(19) {
+            0 if self.kind == Kind::Large => (self.random.up_to(3_000), 2),
+            0 | 1 => (self.random.between(10, 40), count),
+            2..=6 => (0, 0),
+            _ => (self.random.up_to(self.notes), count),
+        };
+        let mut notes = Vec::new();
+        let mut left = count;
+        for _ in 0..wanted {
+            let depth = self.random.pick(&[1, 1, 1, 1, 1, 1, 2, 3, 16]);
+            let note = [self.note(depth, most.min(left))];
+            if let Some(less) = left.checked_sub(measure(&note)) {
+                left = less;
+                notes.extend(note);
+            }
+        }
+        let mut tokens = self.plain(left);
+        let mut at = self.place(&tokens);
+        for note in notes {
+            if !self.random.one_in(3) {
+                at = self.place(&tokens);
+            }
+            tokens.insert(at, note);
+        }
+        tokens
+    }
+
+    /// Where a note goes: at the start, at the end, between two spaces, or anywhere.
+    fn place(&mut self, tokens: &[Token]) -> usize {
+        let random = &mut self.random;
+        let end = tokens.len();
+        let between: Vec<usize> = (1..end)
+            .filter(|&at| tokens[at - 1..=at] == [Token::Space, Token::Space])
+            .collect();
+        match random.up_to(7) {
+            0 => 0,
+            1 => end,
+            2..=4 if !between.is_empty() => random.pick(&between),
+            _ => random.up_to(end as u32) as usize,
+        }
+    }
+
+    /// So many notes in each other, sometimes with one beside another; each has at most so many letters and spaces.
+    fn note(&mut self, depth: u32, most: u32) -> Token {
+        let count = match self.random.up_to(9) {
+            0 | 1 => 0,
+            2..=6 => self.random.up_to(most.min(6)),
+            7 | 8 => self.random.up_to(most.min(60)),
+            _ => self.random.up_to(most),
+        };
+        let mut tokens = match self.random.one_in(12) {
+            true => vec![Token::Space; count as usize],
+            false => self.plain(count),
+        };
+        if depth > 1 {
+            let mut inner = vec![self.note(depth - 1, most.min(6))];
+            if self.random.one_in(3) {
+                inner.push(self.note(1, most.min(6)));
+            }
+            for note in inner {
+                let at = self.place(&tokens);
+                tokens.insert(at, note);
+            }
+        }
+        Token::Note(tokens)
+    }
+
+    /// These tokens, or what is in one of their notes.
+    fn inside_of_any<'a>(&mut self, tokens: &'a mut Vec<Token>) -> &'a mut Vec<Token> {
+        let are_notes = |token: &Token| matches!(token, Token::Note(_));
+        let notes: Vec<usize> = (0..tokens.len())
+            .filter(|&at| are_notes(&tokens[at]))
+            .collect();
+        if notes.is_empty() || self.random.one_in(3) {
+            return tokens;
+        }
+        match &mut tokens[self.random.pick(&notes)] {
+            Token::Note(inside) => inside,
+            other => unreachable!("{other:?} is no note"),
         }
     }
 
@@ -400,7 +490,7 @@ impl Caller {
         tokens
     }
 
-    /// A token that can't be done.
+    /// A token that most often can't be done.
     fn strange(&mut self) -> Token {
         let byte = self.random.byte();
         let few = self.random.up_to(3);
@@ -408,7 +498,10 @@ impl Caller {
             0 => Token::Letter(self.random.pick(&[0, 7, 31, 32, 127, 128, 255])),
             1 => Token::Mark(byte),
             2 => Token::PageOf(byte),
-            3 => Token::Note(self.plain(few)),
+            3 => {
+                let depth = self.random.pick(&[15, 16, 17, 17, 18, 40, 300]);
+                self.note(depth, few)
+            }
             4 => Token::Command(byte, self.plain(few)),
             5 => Token::Given,
             _ => {
@@ -427,7 +520,9 @@ impl Caller {
     fn spoil(&mut self, bytes: &mut Vec<u8>) {
         let random = &mut self.random;
         let at = random.up_to(bytes.len() as u32 - 1) as usize;
-        match random.up_to(8) {
+        // what may be the ends of notes
+        let ends: Vec<usize> = (3..bytes.len()).filter(|&at| bytes[at] == 7).collect();
+        match random.up_to(10) {
             0 | 1 => bytes.truncate(at),
             2 => bytes.push(7),
             3 => bytes.extend((0..random.between(1, 4)).map(|_| random.byte())),
@@ -437,6 +532,14 @@ impl Caller {
                 bytes.remove(at);
             }
             7 => *bytes = (0..random.up_to(12)).map(|_| random.byte()).collect(),
+            8 if !ends.is_empty() => {
+                bytes.remove(random.pick(&ends));
+            }
+            9 if !ends.is_empty() => bytes.insert(random.pick(&ends), 7),
+            8 | 9 => {
+                *bytes = vec![random.pick(&[0, 6]), 0, 0];
+                bytes.extend((0..random.up_to(40)).map(|_| random.pick(&[1, 4, 7])));
+            }
             _ => {
                 *bytes = vec![random.pick(&[0, 2, 6]), 0, random.up_to(2) as u8];
                 let most = random.pick(&[7, 7, 8]);

@@ -1,4 +1,4 @@
-//! Words, the best lines of a paragraph, and lines set to the width.
+//! Words, the best lines of a paragraph, and lines set to the width, with their notes.
 //!
 //! The best way is found forwards: for each place where a line may end, the best way to get there from the start.
 
@@ -14,47 +14,76 @@ pub struct Placed {
     pub at: u32,
 }
 
-pub type Line = Vec<Placed>;
+pub type Row = Vec<Placed>;
 
-/// What is set of a token.
-enum Atom {
-    Letter(u8),
-    Space,
+/// A line of a text, with the lines of its notes.
+#[derive(Clone, Debug, PartialEq, Eq)]
+pub struct Line {
+    pub row: Row,
+    pub notes: Vec<Row>,
 }
 
-fn atom(token: &Token) -> Atom {
+impl Line {
+    /// How many rows of a page it takes.
+    pub fn height(&self) -> usize {
+        1 + self.notes.len()
+    }
+}
+
+/// What is set of a token.
+enum Atom<'a> {
+    Letter(u8),
+    Space,
+    Note(&'a [Token]),
+}
+
+fn atom(token: &Token) -> Atom<'_> {
     match token {
         Token::Letter(letter) => Atom::Letter(*letter),
         Token::Space => Atom::Space,
+        Token::Note(inside) => Atom::Note(inside),
         other => unreachable!("{other:?} is refused"),
     }
 }
 
-struct Word {
+/// What is set of a note: all that is in it but notes.
+pub fn plain(inside: &[Token]) -> impl Iterator<Item = &Token> {
+    inside
+        .iter()
+        .filter(|token| !matches!(token, Token::Note(_)))
+}
+
+/// What stands between two gaps: letters, and notes in any place.
+#[derive(Default)]
+struct Word<'a> {
     letters: Vec<u8>,
     width: u32,
+    notes: Vec<&'a [Token]>,
 }
 
-impl Word {
-    fn of(letters: Vec<u8>, looks: &Looks) -> Word {
-        let width = letters.iter().map(|&letter| looks.wide(letter)).sum();
-        Word { letters, width }
+impl Word<'_> {
+    fn add(&mut self, letter: u8, looks: &Looks) {
+        self.letters.push(letter);
+        self.width += looks.wide(letter);
+    }
+
+    fn is_nothing(&self) -> bool {
+        self.letters.is_empty() && self.notes.is_empty()
     }
 }
 
-fn words(tokens: &[Token], looks: &Looks) -> Vec<Word> {
-    let mut words = vec![Vec::new()];
+fn words<'a>(tokens: &'a [Token], looks: &Looks) -> Vec<Word<'a>> {
+    let mut words = vec![Word::default()];
     for token in tokens {
+        let word = words.last_mut().expect("never empty");
         match atom(token) {
-            Atom::Letter(letter) => words.last_mut().expect("never empty").push(letter),
-            Atom::Space => words.push(Vec::new()),
+            Atom::Letter(letter) => word.add(letter, looks),
+            Atom::Space => words.push(Word::default()),
+            Atom::Note(inside) => word.notes.push(inside),
         }
     }
+    words.retain(|word| !word.is_nothing());
     words
-        .into_iter()
-        .filter(|letters| !letters.is_empty())
-        .map(|letters| Word::of(letters, looks))
-        .collect()
 }
 
 /// A line's own width: its words, with a space between any two.
@@ -146,7 +175,7 @@ fn best(words: &[Word], space: u32, across: u32) -> Vec<u16> {
     ways.pop().map(|way| way.lines).unwrap_or_default()
 }
 
-fn set_line(line: &[Word], is_last: bool, looks: &Looks) -> Line {
+fn set_row(line: &[Word], is_last: bool, looks: &Looks) -> Row {
     let gaps = line.len() as u32 - 1;
     let room = match looks.width.checked_sub(natural(line, looks.space())) {
         Some(room) if !is_last && gaps > 0 => room,
@@ -164,6 +193,21 @@ fn set_line(line: &[Word], is_last: bool, looks: &Looks) -> Line {
         }
     }
     placed
+}
+
+/// The lines of a note, set as a paragraph of its own.
+fn note(inside: &[Token], looks: &Looks) -> Vec<Row> {
+    let tokens: Vec<Token> = plain(inside).cloned().collect();
+    let lines = paragraph(&tokens, looks);
+    lines.into_iter().map(|line| line.row).collect()
+}
+
+fn set_line(line: &[Word], is_last: bool, looks: &Looks) -> Line {
+    let notes = line.iter().flat_map(|word| &word.notes);
+    Line {
+        row: set_row(line, is_last, looks),
+        notes: notes.flat_map(|inside| note(inside, looks)).collect(),
+    }
 }
 
 /// The lines of a paragraph, set.
@@ -218,8 +262,8 @@ mod tests {
             let most = random.between(1, 8);
             let words: Vec<Word> = (0..count)
                 .map(|_| Word {
-                    letters: Vec::new(),
-                    width: random.between(1, most),
+                    width: random.up_to(most), // 0 where it has notes only
+                    ..Word::default()
                 })
                 .collect();
             let (space, across) = (random.between(1, 4), random.between(1, 20));

@@ -76,7 +76,7 @@ fn try_text(wish: &Wish, number: u64, counts: &mut Counts) -> Result<(), Box<Fai
         let answer = pair
             .call(&bytes)
             .map_err(|found| failed(When::Open, &calls, found))?;
-        caller.heard(&bytes, &answer);
+        caller.heard(&bytes, &pair.model);
         counts.add(&answer);
     }
     Ok(())

@@ -1,6 +1,6 @@
 //! Calls and answers in words, as files of calls have them.
 
-use crate::lines::Line;
+use crate::lines::Row;
 use crate::wire::{Answer, Call, Token};
 
 pub fn hex(bytes: &[u8]) -> String {
@@ -42,7 +42,7 @@ pub fn call(bytes: &[u8]) -> String {
     }
 }
 
-fn row(row: &Line) -> String {
+fn row(row: &Row) -> String {
     let letters = row.iter();
     let letters = letters.map(|placed| format!("{} {}", placed.letter as char, placed.at));
     letters.collect::<Vec<_>>().join(" ")
@@ -55,8 +55,8 @@ pub fn answer(bytes: &[u8]) -> String {
             format!("refused {} at {}", refusal.number, refusal.place)
         }
         Some(Answer::Rows(rows)) => {
-            let lines = rows.iter().map(|line| format!("\n    {}", row(line)));
-            format!("rows {}{}", rows.len(), lines.collect::<String>())
+            let told = rows.iter().map(|one| format!("\n    {}", row(one)));
+            format!("rows {}{}", rows.len(), told.collect::<String>())
         }
         Some(Answer::Numbers(first, second)) => format!("numbers {first} and {second}"),
         None => "no answer".into(),

@@ -1,6 +1,6 @@
 //! Calls and answers, and their forms as bytes.
 
-use crate::lines::{Line, Placed};
+use crate::lines::{Placed, Row};
 
 #[derive(Clone, Debug, PartialEq, Eq)]
 pub enum Token {
@@ -34,7 +34,7 @@ pub struct Refusal {
 pub enum Answer {
     Done,
     Refused(Refusal),
-    Rows(Vec<Line>),
+    Rows(Vec<Row>),
     Numbers(u32, u32),
 }
 
@@ -247,7 +247,7 @@ impl Reader<'_> {
         })
     }
 
-    fn row(&mut self) -> Read<Line> {
+    fn row(&mut self) -> Read<Row> {
         let count = self.two()?;
         (0..count)
             .map(|_| {
@@ -266,7 +266,7 @@ mod tests {
 
     #[test]
     fn stops_at_the_first_byte_that_does_not_fit() {
-        let cases: [(&[u8], usize); 12] = [
+        let cases: [(&[u8], usize); 15] = [
             (&[], 0),
             (&[7], 0),
             (&[1, 0], 2),
@@ -277,6 +277,9 @@ mod tests {
             (&[0, 0, 0, 7], 3),
             (&[0, 0, 0, 4, 1], 5),
             (&[0, 0, 0, 4, 8, 7], 4),
+            (&[0, 0, 0, 4, 1, 7, 7], 6),
+            (&[0, 0, 0, 4, 4, 1, 7], 7),
+            (&[0, 0, 0, 4, 0, 7], 6),
             (&[6, 0, 0, 5, 7, 7, 7], 6),
             (&[2, 0, 0, 5], 4),
         ];

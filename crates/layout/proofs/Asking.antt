@@ -1,121 +1,144 @@
 -- What is answered when a walk over the book has ended.
-use Rattle.std.proofs.Common.{◌≡◌, ℕ, ◌+◌, ◌-◌, ◌<◌, ◌≤◌, ◌⊎◌, List, [], ◌∷◌, ◌++◌, length, take, drop, Ok, Err, sym, ap, ◌∙◌, subst, ap₂, inl, inr, arith}
-use Rattle.std.proofs.lemmas.List.{length-drop, length-take-le, drop-drop}
-use Rattle.std.proofs.lemmas.Bool.{lt-ltb, le-ltb, le-leb, lt-leb, cases_lt}
+use Rattle.std.proofs.Common.{◌≡◌, ℕ, ◌+◌, ◌-◌, ◌<◌, ◌≤◌, true, false, ltb, List, [], ◌∷◌, ◌++◌, length, take, drop, Ok, Err, sym, refl, ap, ◌∙◌, subst, ap₂, arith}
+use Rattle.std.proofs.lemmas.List.{append-nil, append_assoc, length-drop, length-take-le, drop-drop}
+use Rattle.std.proofs.lemmas.Bool.{lt-ltb, le-ltb, le-leb, lt-leb}
 use Rattle.meaning.specs.Lines.{Line, Placed}
 use Rattle.meaning.specs.Pages.{Looks, fill}
 use Rattle.meaning.specs.Calls.{letters_of, page_rows}
+use Rattle.meaning.specs.Promise.{notes_of}
 use Rattle.meaning.proofs.Picks.{pick_true, pick_false}
 use Rattle.wire.specs.Bytes.{over, rows_bytes, answer_bytes}
 use Rattle.wire.specs.declared.refusal.Refusal.TheVariants.{NoPage, NoRows}
 use Rattle.layout.specs.Sheets.{looks_of}
+use Rattle.layout.specs.Paragraphs.{part_rows}
 use Rattle.layout.specs.Finishes.{rows_left, finish, finish_at, TakesAll}
 use Rattle.layout.specs.Books.{lines_in, pages_by}
-use Rattle.layout.specs.Found.{all_wanted, FoundBy}
-use Rattle.layout.specs.Asked.{page_of, shown_of, bytes_of_rows}
+use Rattle.layout.specs.Found.{goal_of, FoundBy, window_of, inside}
+use Rattle.layout.specs.Asked.{page_of, shape_of, shown_of, bytes_of_rows}
 use Rattle.store.specs.Paragraphs.{paragraphs_left}
 use Rattle.layout.specs.declared.sheet.Sheet.{Sheet}
+use Rattle.layout.specs.declared.search.Goal.{Goal}
+use Rattle.layout.specs.declared.rows.Part.TheVariants.{Lines, Notes}
 use Rattle.layout.specs.declared.rows.RowWriter.{RowWriter}
 use Rattle.layout.specs.declared.book.Wanted.{Wanted}
 use Rattle.layout.specs.declared.book.Found.{Found}
 use Rattle.layout.proofs.Writing.{written, over_more}
-use Rattle.layout.proofs.Taking.{all_taken, all_taken_at}
-use Rattle.layout.proofs.Seeking.{SoughtAmong, sought_is}
-use Rattle.layout.proofs.PageLines.{rows_of_page, page_rows_length, take_letters, drop_letters}
-use Rattle.layout.proofs.BookLines.{lines_footless}
+use Rattle.layout.proofs.Taking.{takes_more, all_taken, all_taken_at}
+use Rattle.layout.proofs.Searching.{SearchAmong, search_is}
+use Rattle.layout.proofs.PageRows.{whole_seen, rows_enough, rows_short, rows_seen}
 
-module _ (s : Sheet) (ps : List (List ℕ)) (q : Wanted) (f : Found) (h : FoundBy s (lines_in s ps) q f) where
+module _ (s : Sheet) (ps : List (List ℕ)) (goal : Goal) (f : Found) (h : FoundBy s (lines_in s ps) goal f) where
+  pub tells_pages : SearchAmong (pages_by s ps) goal f.walk
+  unfolding pages_by
+  tells_pages = subst (SearchAmong (fill (looks_of s) (lines_in s ps) [] []) goal) (sym h.walk) (search_is (looks_of s) goal (lines_in s ps))
+
+  pub all_counted : f.walk.pages ≤ goal.page → length (pages_by s ps) ≡ f.walk.pages
+  all_counted l = tells_pages.none l
+
+  page_missing : f.walk.pages ≤ goal.page → ltb goal.page (length (pages_by s ps)) ≡ false
+  page_missing l = le-ltb goal.page (length (pages_by s ps)) (omega (arith, tells_pages.none l))
+
+  pub no_shape : f.walk.pages ≤ goal.page → Err (NoPage goal.page) ≡ shape_of (pages_by s ps) goal.page
+  no_shape l = sym (pick_false _ _ _ (page_missing l))
+
+  module _ (begun : goal.page < f.walk.pages) where
+    on_page : f.walk.pages ≡ goal.page + 1
+    on_page = omega (arith, tells_pages.near)
+
+    page_there : ltb goal.page (length (pages_by s ps)) ≡ true
+    page_there = lt-ltb goal.page (length (pages_by s ps)) (tells_pages.there on_page)
+
+    pub shape_seen : f.walk.lines < goal.lines → Ok (record { lines = f.walk.lines; rows = f.walk.rows }) ≡ shape_of (pages_by s ps) goal.page
+    unfolding pages_by
+    shape_seen l =
+        let whole = whole_seen (looks_of s) (lines_in s ps) goal f.walk tells_pages on_page l in
+        ap₂ (λ (n m : ℕ). Ok (record { lines = n; rows = m })) whole.0 whole.1
+        ∙ sym (pick_true _ _ _ page_there)
+
+module _ (s : Sheet) (ps : List (List ℕ)) (q : Wanted) (f : Found) (h : FoundBy s (lines_in s ps) (goal_of q) f) where
   abbrev looks : Looks
   looks = looks_of s
 
-  tells_pages : SoughtAmong (pages_by s ps) (all_wanted q) f.walk
-  unfolding pages_by
-  tells_pages = subst (SoughtAmong (fill looks (lines_in s ps) [] []) (all_wanted q)) (sym h.walk) (sought_is looks (all_wanted q) (lines_in s ps))
-
-  pub all_counted : f.walk.pages ≤ q.page → length (pages_by s ps) ≡ f.walk.pages
-  all_counted l = tells_pages.none l
+  tells : SearchAmong (pages_by s ps) (goal_of q) f.walk
+  tells = tells_pages s ps (goal_of q) f h
 
   pub no_such_page : f.walk.pages ≤ q.page → Err (NoPage q.page) ≡ shown_of (pages_by s ps) q.page q.row q.count
-  no_such_page l = sym (pick_false _ _ _ (le-ltb q.page (length (pages_by s ps)) (omega (arith, all_counted l))))
+  no_such_page l = sym (pick_false _ _ _ (page_missing s ps (goal_of q) f h l))
 
-  rows_as_lines : q.page < length (pages_by s ps) → length (page_rows (page_of (pages_by s ps) q.page)) ≡ length (page_of (pages_by s ps) q.page).lines
-  unfolding pages_by
-  rows_as_lines l = page_rows_length looks (lines_in s ps) q.page (lines_footless s ps) l
+  module _ (begun : q.page < f.walk.pages) where
+    on : f.walk.pages ≡ q.page + 1
+    on = on_page s ps (goal_of q) f h begun
 
-  -- the page is there, and it has fewer rows
-  short : q.page < f.walk.pages → (1 < f.walk.pages - q.page) ⊎ (f.walk.lines < q.row + q.count) → length (page_of (pages_by s ps) q.page).lines < q.row + q.count
-  short l (inl m) = tells_pages.short (omega arith)
-  short l (inr m) =
-      elim (cases_lt (q.page + 1) f.walk.pages) [
-        | inl more ↦ tells_pages.short more
-        | inr no_more ↦ omega (arith, tells_pages.last (omega arith) m)
-      ]
+    there : ltb q.page (length (pages_by s ps)) ≡ true
+    there = page_there s ps (goal_of q) f h begun
 
-  pub not_so_many : q.page < f.walk.pages → (1 < f.walk.pages - q.page) ⊎ (f.walk.lines < q.row + q.count) → Err (NoRows q.row) ≡ shown_of (pages_by s ps) q.page q.row q.count
-  not_so_many l m =
-      let there = tells_pages.there l in
-      sym (pick_true _ _ _ (lt-ltb q.page (length (pages_by s ps)) there)
-      ∙ pick_false _ _ _ (lt-leb (q.row + q.count) (length (page_rows (page_of (pages_by s ps) q.page))) (omega (arith, rows_as_lines there, short l m))))
+    pub not_so_many : f.walk.rows < q.row + q.count → Err (NoRows q.row) ≡ shown_of (pages_by s ps) q.page q.row q.count
+    unfolding pages_by
+    not_so_many l =
+        sym (pick_true _ _ _ there
+        ∙ pick_false _ _ _ (lt-leb (q.row + q.count) (length (page_rows (page_of (pages_by s ps) q.page))) (rows_short looks (lines_in s ps) (goal_of q) f.walk tells on l)))
 
-  -- all rows are there
-  module _ (page : f.walk.pages ≡ q.page + 1) (enough : q.row + q.count ≤ f.walk.lines) where
-    abbrev skip : ℕ
-    skip = f.walk.before + q.row - f.from.lines
+    pub place_near : f.from.lines ≤ f.walk.before
+    place_near = h.near on
 
-    abbrev behind : List (List ℕ)
-    behind = paragraphs_left f.from.paragraphs
+    -- all rows are there
+    module _ (enough : q.row + q.count ≤ f.walk.rows) where
+      so_many : q.row + q.count ≤ length (page_rows (page_of (pages_by s ps) q.page))
+      unfolding pages_by
+      so_many = rows_enough looks (lines_in s ps) (goal_of q) f.walk tells on enough
 
-    there : q.page < length (pages_by s ps)
-    there = tells_pages.there (omega arith)
+      abbrev let_through : List Line
+      let_through = inside (window_of f) (lines_in s (paragraphs_left f.from.paragraphs))
 
-    so_many : q.row + q.count ≤ length (page_of (pages_by s ps) q.page).lines
-    so_many = tells_pages.enough page enough
+      -- what the window lets through is what the walk has seen of the page
+      same_lines : let_through ≡ take f.walk.lines (drop f.walk.before (lines_in s ps))
+      same_lines =
+          ap (λ (ls : List Line). take f.walk.lines (drop (f.walk.before - f.from.lines) ls)) (sym h.from.lines)
+          ∙ ap (take f.walk.lines) (drop-drop (f.walk.before - f.from.lines) f.from.lines (lines_in s ps) ∙ ap (λ (n : ℕ). drop n (lines_in s ps)) (omega (arith, place_near)))
 
-    shown_rows : List (List Placed)
-    shown_rows = take q.count (drop q.row (page_rows (page_of (pages_by s ps) q.page)))
+      abbrev all_rows : List (List Placed)
+      all_rows = letters_of let_through ++ letters_of (notes_of looks let_through)
 
-    same_lines : drop (f.walk.before + q.row) (lines_in s ps) ≡ drop skip (lines_in s behind)
-    same_lines =
-        let near = h.near page in
-        let at : f.walk.before + q.row ≡ f.from.lines + skip = omega arith in
-        ap (λ n. drop n (lines_in s ps)) at ∙ (sym (drop-drop skip f.from.lines (lines_in s ps)) ∙ ap (drop skip) h.from.lines)
+      same_rows : take q.count (drop q.row all_rows) ≡ take q.count (drop q.row (page_rows (page_of (pages_by s ps) q.page)))
+      unfolding pages_by
+      same_rows =
+          ap (λ (ls : List Line). take q.count (drop q.row (letters_of ls ++ letters_of (notes_of looks ls)))) same_lines
+          ∙ rows_seen looks (lines_in s ps) (goal_of q) f.walk tells on q.row q.count refl
 
-    same_rows : shown_rows ≡ take q.count (drop skip (letters_of (lines_in s behind)))
-    unfolding shown_rows pages_by
-    same_rows =
-        rows_of_page looks (lines_in s ps) q.page q.row q.count (lines_footless s ps) there so_many
-        ∙ ap (λ n. letters_of (take q.count (drop (n + q.row) (lines_in s ps)))) (sym (tells_pages.start page))
-        ∙ ap (λ (ls : List Line). letters_of (take q.count ls)) same_lines
-        ∙ sym (take_letters q.count (drop skip (lines_in s behind)))
-        ∙ ap (take q.count) (sym (drop_letters skip (lines_in s behind)))
+      row_count : length (take q.count (drop q.row (page_rows (page_of (pages_by s ps) q.page)))) ≡ q.count
+      row_count = length-take-le q.count (drop q.row (page_rows (page_of (pages_by s ps) q.page))) (omega (arith, length-drop q.row (page_rows (page_of (pages_by s ps) q.page)), so_many))
 
-    row_count : length shown_rows ≡ q.count
-    unfolding shown_rows
-    row_count =
-        length-take-le q.count (drop q.row (page_rows (page_of (pages_by s ps) q.page))) (omega (arith, length-drop q.row (page_rows (page_of (pages_by s ps) q.page)), rows_as_lines there, so_many))
+      bytes_are : bytes_of_rows (pages_by s ps) q.page q.row q.count ≡ (2 ∷ (q.count ∷ [])) ++ rows_bytes (take q.count (drop q.row all_rows))
+      unfolding answer_bytes
+      bytes_are = ap₂ (λ (n : ℕ) (xs : List (List Placed)). 2 ∷ (n ∷ rows_bytes xs)) row_count (sym same_rows)
 
-    bytes_are : bytes_of_rows (pages_by s ps) q.page q.row q.count ≡ (2 ∷ (q.count ∷ [])) ++ rows_bytes (take q.count (drop skip (letters_of (lines_in s behind))))
-    unfolding answer_bytes shown_rows
-    bytes_are = ap₂ (λ (n : ℕ) (xs : List (List Placed)). 2 ∷ (n ∷ rows_bytes xs)) row_count same_rows
+      -- what the writer leaves that was made for them: first the lines, and then the notes
+      module _
+          (w u v : RowWriter) (passed : w.skip ≡ q.row) (left : w.left ≡ q.count) (start : w.end ≡ 2)
+          (lines : TakesAll w u (part_rows Lines looks let_through)) (notes : TakesAll u v (part_rows Notes looks let_through))
+        where
+          taken : TakesAll w v all_rows
+          taken =
+              takes_more
+              (record { lent = lines.lent; bytes = λ more. lines.bytes (letters_of (notes_of looks let_through) ++ more) ∙ ap (finish w) (sym (append_assoc (letters_of let_through) (letters_of (notes_of looks let_through)) more)); end = λ more. lines.end (letters_of (notes_of looks let_through) ++ more) ∙ ap (finish_at w) (sym (append_assoc (letters_of let_through) (letters_of (notes_of looks let_through)) more)) })
+              v (letters_of (notes_of looks let_through)) [] (sym (append-nil (letters_of (notes_of looks let_through)))) notes
 
-    -- what the writer leaves that was made for them
-    module _ (w v : RowWriter) (passed : w.skip ≡ skip) (left : w.left ≡ q.count) (start : w.end ≡ 2) (taken : TakesAll w v (letters_of (lines_in s behind))) where
-      rows_bytes_are : rows_bytes (rows_left w (letters_of (lines_in s behind))) ≡ rows_bytes (take q.count (drop skip (letters_of (lines_in s behind))))
-      rows_bytes_are = ap₂ (λ (n k : ℕ). rows_bytes (take n (drop k (letters_of (lines_in s behind))))) left passed
+          rows_bytes_are : rows_bytes (rows_left w all_rows) ≡ rows_bytes (take q.count (drop q.row all_rows))
+          rows_bytes_are = ap₂ (λ (n k : ℕ). rows_bytes (take n (drop k all_rows))) left passed
 
-      pub written_there : (out : List ℕ) → 2 ≤ length out → w.out.now ≡ over (2 ∷ (q.count ∷ [])) out → v.out.now ≡ over (bytes_of_rows (pages_by s ps) q.page q.row q.count) out
-      unfolding finish
-      written_there out room t =
-          all_taken taken
-          ∙ ap₂ (λ (n : ℕ) (xs : List ℕ). written n xs w.out.now) start rows_bytes_are
-          ∙ ap (written 2 (rows_bytes (take q.count (drop skip (letters_of (lines_in s behind)))))) t
-          ∙ over_more (2 ∷ (q.count ∷ [])) (rows_bytes (take q.count (drop skip (letters_of (lines_in s behind))))) out room
-          ∙ ap (λ (xs : List ℕ). over xs out) (sym bytes_are)
+          pub written_there : (out : List ℕ) → 2 ≤ length out → w.out.now ≡ over (2 ∷ (q.count ∷ [])) out → v.out.now ≡ over (bytes_of_rows (pages_by s ps) q.page q.row q.count) out
+          unfolding finish
+          written_there out room t =
+              all_taken taken
+              ∙ ap₂ (λ (n : ℕ) (xs : List ℕ). written n xs w.out.now) start rows_bytes_are
+              ∙ ap (written 2 (rows_bytes (take q.count (drop q.row all_rows)))) t
+              ∙ over_more (2 ∷ (q.count ∷ [])) (rows_bytes (take q.count (drop q.row all_rows))) out room
+              ∙ ap (λ (xs : List ℕ). over xs out) (sym bytes_are)
 
-      pub shown_there : Ok v.end ≡ shown_of (pages_by s ps) q.page q.row q.count
-      unfolding finish_at
-      shown_there =
-          let size : length (bytes_of_rows (pages_by s ps) q.page q.row q.count) ≡ v.end =
-          ap length bytes_are ∙ omega (arith, all_taken_at taken, start, ap length rows_bytes_are) in
-          sym (pick_true _ _ _ (lt-ltb q.page (length (pages_by s ps)) there)
-          ∙ (pick_true _ _ _ (le-leb (q.row + q.count) (length (page_rows (page_of (pages_by s ps) q.page))) (omega (arith, rows_as_lines there, so_many))) ∙ ap Ok size))
+          pub shown_there : Ok v.end ≡ shown_of (pages_by s ps) q.page q.row q.count
+          unfolding finish_at
+          shown_there =
+              let size : length (bytes_of_rows (pages_by s ps) q.page q.row q.count) ≡ v.end =
+              ap length bytes_are ∙ omega (arith, all_taken_at taken, start, ap length rows_bytes_are) in
+              sym (pick_true _ _ _ there
+              ∙ (pick_true _ _ _ (le-leb (q.row + q.count) (length (page_rows (page_of (pages_by s ps) q.page))) so_many) ∙ ap Ok size))

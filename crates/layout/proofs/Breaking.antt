@@ -1,141 +1,152 @@
 -- What the working part holds when a paragraph was broken into lines.
-use Rattle.std.proofs.Common.{◌≡◌, ℕ, ◌+◌, ◌-◌, ◌*◌, ◌/◌, ◌<◌, ◌≤◌, List, ◌++◌, map, length, get_or, take, drop, Some, None, Option, unwrap_or, sym, refl, ap, ◌∙◌, subst, arith}
+use Rattle.std.proofs.Common.{◌≡◌, ℕ, ◌+◌, ◌-◌, ◌*◌, ◌/◌, ◌≤◌, true, List, ◌++◌, length, take, drop, Some, None, Option, unwrap_or, sym, refl, ap, ◌∙◌, subst, arith}
 use Rattle.std.specs.Option.{option_map}
-use Rattle.std.proofs.ByRecursion.{All-get_or}
-use Rattle.std.proofs.lemmas.List.{length-append, length-map, length-take-le, length-drop, get_or-drop, get_or-take, take_at, drop_at, drop-drop}
+use Rattle.std.proofs.lemmas.List.{length-append, length-take-le, length-drop, take_at, drop_at, drop-drop, take-take}
 use Rattle.meaning.specs.Text.{Atom}
-use Rattle.meaning.specs.Lines
-use Rattle.meaning.specs.Lines.{nothing_yet, is_blank, split, long}
-use Rattle.words.specs.Atoms.{atom_number, plain_within, with_atoms}
-use Rattle.words.specs.Slots.{word_in, wide_by}
-use Rattle.words.specs.Lined.{atoms_or_none, words_found, BreaksInto}
-use Rattle.words.specs.declared.slots.Word.{Word}
+use Rattle.meaning.specs.Lines.{Word, nothing_yet, is_blank, split}
+use Rattle.words.specs.Atoms.{numbers, decoded, all_plain}
+use Rattle.words.specs.Reads.{found_within, with_atoms}
+use Rattle.words.specs.Slots.{words_from, wide_by}
+use Rattle.words.specs.Lined.{atoms_or_none, words_found, taken_by, Lined, BreaksInto}
+use Rattle.words.specs.declared.lines.Taken.{Taken}
+use Rattle.words.proofs.Decoding.{decoded_all, all_plain_stand}
 use Rattle.linebreak.proofs.Paths.{lines_follow}
-use Rattle.layout.specs.Rows.{letters_at, word_of, words_from, WordFits}
-use Rattle.layout.specs.Sheets.{paragraph_words, InLines, Broken}
+use Rattle.layout.specs.Rows.{letters_in}
+use Rattle.layout.specs.Sheets.{working, paragraph_words, row_of, slots_of, InLines, Broken, Noted, Works}
 use Rattle.layout.specs.declared.sheet.Sheet.{Sheet}
-use Rattle.layout.proofs.PageLines.{take_of_part}
-use Rattle.layout.proofs.Splitting.{Byte, OfBytes, split_of_bytes, split_letters_few, words_same}
+use Rattle.layout.proofs.Splitting.{split_letters_few, decoded_few}
+
+pub in_lines :
+    (s : Sheet) (row : List ℕ) (ws : List Word) (slots : List ℕ) → Lined (wide_by s.looks.widths) s.looks.width row ws slots → length row ≤ 4096 → s.looks.width ≤ 1000 →
+    all_plain (decoded row) ≡ true → ws ≡ split (decoded row) nothing_yet → length ws ≤ length row → InLines s ws row slots
+in_lines s row ws slots l few across plain words few_words =
+    let many : length ws ≡ length slots / 8 = omega (arith, l.as_long) in
+    record {
+      as_many = l.as_long;
+      few = few;
+      few_words = few_words;
+      across = across;
+      words = l.words ∙ ap (λ (n : ℕ). words_from row slots 0 n) many;
+      each = l.each;
+      parts = l.lines;
+      plain = plain;
+      letters = omega (arith, ap letters_in words, split_letters_few (decoded row) nothing_yet, decoded_few row);
+      follows = lines_follow (wide_by s.looks.widths) s.looks.width ws slots (length ws) refl l.solved;
+    }
+
+abbrev nothing_taken : Taken
+nothing_taken = record { numbers = 0; words = 0 }
 
 -- where nothing was read there are no words
-words_or_none : (found : Option (List Atom)) → unwrap_or (option_map (λ xs. length (split xs nothing_yet)) found) 0 ≡ length (words_found found)
-unfolding split is_blank
-words_or_none None = refl
-words_or_none (Some xs) = refl
+taken_or_none : (found : Option (List Atom)) → unwrap_or (option_map taken_by found) nothing_taken ≡ taken_by (atoms_or_none found)
+unfolding numbers split is_blank
+taken_or_none None = refl
+taken_or_none (Some xs) = refl
 
 -- the atoms stand at the start of the row
-numbers_first : (found : Option (List Atom)) (before : List ℕ) → map atom_number (atoms_or_none found) ≡ take (length (atoms_or_none found)) (with_atoms found before)
-numbers_first None before = refl
-numbers_first (Some xs) before = sym (take_at (map atom_number xs) (drop (length xs) before) (length xs) (length-map xs atom_number))
+numbers_first : (most : ℕ) (found : Option (List Atom)) (before : List ℕ) → numbers (atoms_or_none found) ≡ take (length (numbers (atoms_or_none found))) (with_atoms most found before)
+unfolding numbers
+numbers_first most None before = refl
+numbers_first most (Some xs) before = sym (take_at (numbers xs) (drop (length (numbers xs)) before) (length (numbers xs)) refl)
 
 -- the parts of the working part, of which the first was for atoms and the second for slots
 module _
-    (s : Sheet) (bytes before : List ℕ) (small : s.bulk ≤ 4096) (room : 9 * s.bulk ≤ length before) (across : s.looks.width ≤ 1000)
-    (read lined : List ℕ) (found : Option ℕ) (n : ℕ) (count : n ≡ unwrap_or found 0)
-    (b : BreaksInto (wide_by s.looks.widths) s.looks.width (plain_within (length (take s.bulk before)) bytes) (take s.bulk before) read (drop s.bulk before) lined found)
-    (read_long : length read ≡ length (take s.bulk before)) (lined_long : length lined ≡ length (drop s.bulk before))
+    (s : Sheet) (bytes before : List ℕ) (small : s.bulk ≤ 4096) (room : working s.bulk ≤ length before) (across : s.looks.width ≤ 1000)
+    (read lined : List ℕ) (found : Option Taken) (t : Taken) (count : t ≡ unwrap_or found nothing_taken)
+    (b : BreaksInto (wide_by s.looks.widths) s.looks.width (found_within (length (take s.bulk before)) bytes) (take s.bulk before) read (drop s.bulk before) lined found)
+    (read_long : length read ≡ length (take s.bulk before))
   where
-    abbrev ws : List Lines.Word
-    ws = words_found (plain_within (length (take s.bulk before)) bytes)
-
     abbrev xs : List Atom
-    xs = atoms_or_none (plain_within (length (take s.bulk before)) bytes)
+    xs = atoms_or_none (found_within (length (take s.bulk before)) bytes)
 
-    abbrev slots : List ℕ
-    slots = take (8 * length ws) lined
+    abbrev ws : List Word
+    ws = words_found (found_within (length (take s.bulk before)) bytes)
 
     abbrev after : List ℕ
     after = read ++ lined
 
-    atoms_long : length (take s.bulk before) ≡ s.bulk
-    atoms_long = length-take-le s.bulk before (omega arith)
+    row_long : length (take s.bulk before) ≡ s.bulk
+    row_long = length-take-le s.bulk before (omega arith)
 
-    as_many : n ≡ length ws
-    as_many = count ∙ ap (λ (r : Option ℕ). unwrap_or r 0) b.count ∙ words_or_none (plain_within (length (take s.bulk before)) bytes)
+    taken : t ≡ taken_by xs
+    taken = count ∙ ap (λ (o : Option Taken). unwrap_or o nothing_taken) b.count ∙ taken_or_none (found_within (length (take s.bulk before)) bytes)
 
-    numbers : map atom_number xs ≡ take (length xs) read
-    numbers = numbers_first (plain_within (length (take s.bulk before)) bytes) (take s.bulk before) ∙ ap (take (length xs)) (sym b.atoms)
+    many_numbers : t.numbers ≡ length (numbers xs)
+    many_numbers = ap (λ (u : Taken). u.numbers) taken
 
-    -- a word's letters stand among the atoms
-    letters_there : (k : ℕ) → k < length ws → (get_or ws k nothing_yet).letters ≡ letters_at read (word_in slots k)
-    letters_there k h =
-        let v : Word = word_in slots k in
-        (b.lines.words.each k h).letters ∙ ap (λ (ns : List ℕ). take v.atoms (drop v.first ns)) numbers ∙ take_of_part v.atoms v.first (length xs) read (b.lines.each k h).within
+    many_words : t.words ≡ length ws
+    many_words = ap (λ (u : Taken). u.words) taken
 
-    word_is : (k : ℕ) → k < length ws → get_or ws k nothing_yet ≡ word_of read slots k
-    word_is k h =
-        let held = b.lines.words.each k h in
-        let letters = letters_there k h in
-        λ i. record { letters = letters i; tags = held.tags i; feet = held.feet i }
-
-    word_fits : (k : ℕ) → k < length ws → WordFits s.looks.widths read (word_in slots k)
-    word_fits k h =
-        let held = b.lines.words.each k h in
-        let lies = b.lines.each k h in
-        let v : Word = word_in slots k in
-        let letters = letters_there k h in
-        let of_bytes : OfBytes (get_or ws k nothing_yet) = All-get_or OfBytes ws k nothing_yet h (split_of_bytes xs nothing_yet b.plain tt) in
-        record {
-          few = omega (arith, lies.within, b.room, atoms_long);
-          within = omega (arith, lies.within, b.room, read_long);
-          letters = λ i l.
-              subst Byte
-              (ap (λ (cs : List ℕ). get_or cs i 0) letters ∙ get_or-take v.atoms (drop v.first read) i 0 l ∙ get_or-drop v.first read i 0)
-              (All-get_or Byte (get_or ws k nothing_yet).letters i 0 (omega (arith, held.count)) of_bytes);
-          width = sym held.width ∙ ap (long (wide_by s.looks.widths)) letters;
-          narrow = lies.narrow;
-        }
-
-    in_lines : InLines s ws read slots
-    in_lines =
-        let many : length ws ≡ length slots / 8 = omega (arith, b.lines.as_long) in
-        record {
-          as_many = b.lines.as_long;
-          few = omega (arith, b.few, b.room, atoms_long);
-          across = across;
-          words = subst (λ (m : ℕ). ws ≡ words_from read slots 0 m) many (words_same read slots (length ws) 0 ws refl (λ k h. word_is k h ∙ ap (word_of read slots) (omega arith)));
-          each = word_fits;
-          letters = omega (arith, split_letters_few xs nothing_yet, b.room, atoms_long);
-          follows = lines_follow (wide_by s.looks.widths) s.looks.width ws slots (length ws) refl b.lines.solved;
-        }
+    row_there : row_of t after ≡ numbers xs
+    row_there =
+        ap (λ (k : ℕ). take k after) many_numbers
+        ∙ sym (take-take (length (numbers xs)) (length read) after (omega (arith, b.room, read_long)))
+        ∙ ap (take (length (numbers xs))) (take_at read lined (length read) refl ∙ b.atoms)
+        ∙ sym (numbers_first (length (take s.bulk before)) (found_within (length (take s.bulk before)) bytes) (take s.bulk before))
 
     slots_behind : drop s.bulk after ≡ lined
-    slots_behind = drop_at read lined s.bulk (read_long ∙ atoms_long)
+    slots_behind = drop_at read lined s.bulk (read_long ∙ row_long)
 
-    atoms_there : take s.bulk after ≡ read
-    atoms_there = take_at read lined s.bulk (read_long ∙ atoms_long)
+    slots_there : slots_of s t after ≡ take (8 * length ws) lined
+    slots_there = ap (take (8 * t.words)) slots_behind ∙ ap (λ (m : ℕ). take (8 * m) lined) many_words
 
-    slots_there : take (8 * n) (drop s.bulk after) ≡ slots
-    slots_there = ap (take (8 * n)) slots_behind ∙ ap (λ (m : ℕ). take (8 * m) lined) as_many
+    atoms_there : decoded (numbers xs) ≡ xs
+    atoms_there = decoded_all xs (all_plain_stand xs b.plain)
+
+    lines_there : InLines s ws (numbers xs) (take (8 * length ws) lined)
+    lines_there =
+        in_lines s (numbers xs) ws (take (8 * length ws) lined) b.lines (omega (arith, b.room, row_long)) across (ap all_plain atoms_there ∙ b.plain)
+        (ap (λ (ys : List Atom). split ys nothing_yet) (sym atoms_there)) b.few
 
     after_long : length after ≡ length before
-    after_long = omega (arith, length-append read lined, read_long, lined_long, length-drop s.bulk before, atoms_long)
+    after_long = omega (arith, length-append read lined, read_long, b.as_long, length-drop s.bulk before, row_long)
 
     paragraph_is : ws ≡ paragraph_words s bytes
-    paragraph_is = ap (λ (m : ℕ). words_found (plain_within m bytes)) atoms_long
+    paragraph_is = ap (λ (m : ℕ). words_found (found_within m bytes)) row_long
 
-    broken : Broken s (paragraph_words s bytes) after n
+    broken : Broken s (paragraph_words s bytes) after t
     broken =
-        subst (λ (vs : List Lines.Word). Broken s vs after n) paragraph_is (record {
-          as_many = sym as_many;
-          few = omega (arith, as_many, b.few, b.room, atoms_long);
-          room = omega (arith, after_long, as_many, b.few, b.room, atoms_long);
-          lines = rw (atoms_there, slots_there) in_lines;
+        subst (λ (vs : List Word). Broken s vs after t) paragraph_is (record {
+          numbers_few = omega (arith, many_numbers, b.room, row_long);
+          words_few = omega (arith, many_words, b.few, b.room, row_long);
+          room = omega (arith, after_long);
+          lines = rw (row_there, slots_there) lines_there;
         })
 
-    behind : drop (9 * s.bulk) after ≡ drop (9 * s.bulk) before
+    behind : drop (working s.bulk) after ≡ drop (working s.bulk) before
     behind =
         let m : ℕ = 8 * length ws in
-        let most : m + (8 * s.bulk - m) ≡ 8 * s.bulk = omega (arith, b.few, b.room, atoms_long) in
-        let all : s.bulk + 8 * s.bulk ≡ 9 * s.bulk = omega arith in
-        let past : (xs : List ℕ) → drop (8 * s.bulk - m) (drop m xs) ≡ drop (8 * s.bulk) xs = λ xs. drop-drop (8 * s.bulk - m) m xs ∙ ap (λ k. drop k xs) most in
-        let whole : (xs : List ℕ) → drop (8 * s.bulk) (drop s.bulk xs) ≡ drop (9 * s.bulk) xs = λ xs. drop-drop (8 * s.bulk) s.bulk xs ∙ ap (λ k. drop k xs) all in
+        let left : ℕ = 16 * s.bulk - m in
+        let most : m + left ≡ 16 * s.bulk = omega (arith, b.few, b.room, row_long) in
+        let all : s.bulk + 16 * s.bulk ≡ working s.bulk = omega arith in
+        let past : (ns : List ℕ) → drop left (drop m ns) ≡ drop (16 * s.bulk) ns = λ ns. drop-drop left m ns ∙ ap (λ k. drop k ns) most in
+        let whole : (ns : List ℕ) → drop (16 * s.bulk) (drop s.bulk ns) ≡ drop (working s.bulk) ns = λ ns. drop-drop (16 * s.bulk) s.bulk ns ∙ ap (λ k. drop k ns) all in
         sym (whole after)
-        ∙ ap (drop (8 * s.bulk)) slots_behind
+        ∙ ap (drop (16 * s.bulk)) slots_behind
         ∙ sym (past lined)
-        ∙ ap (drop (8 * s.bulk - m)) b.behind
+        ∙ ap (drop left) b.behind
         ∙ past (drop s.bulk before)
         ∙ whole before
 
-    pub broken_and_kept : Broken s (paragraph_words s bytes) after n × (length after ≡ length before) × (drop (9 * s.bulk) after ≡ drop (9 * s.bulk) before)
+    pub broken_and_kept : Broken s (paragraph_words s bytes) after t × (length after ≡ length before) × (drop (working s.bulk) after ≡ drop (working s.bulk) before)
     broken_and_kept = (broken, after_long, behind)
+
+-- the working part in two: what is in front is read, and a part of the other is written
+pub works :
+    {s : Sheet} {work front back notes : List ℕ} (n : ℕ) → front ≡ take (9 * s.bulk) work → back ≡ drop (9 * s.bulk) work → working s.bulk ≤ length work → n ≤ s.bulk → Noted n back notes →
+    Works s work (front ++ notes)
+works {s} {work} {front} {back} {notes} n e f room few k =
+    let front_long : length front ≡ 9 * s.bulk = ap length e ∙ length-take-le (9 * s.bulk) work (omega arith) in
+    let back_long : length back ≡ length work - 9 * s.bulk = ap length f ∙ length-drop (9 * s.bulk) work in
+    let left : 8 * n + (8 * s.bulk - 8 * n) ≡ 8 * s.bulk = omega (arith, few) in
+    let past : (ns : List ℕ) → drop (8 * s.bulk - 8 * n) (drop (8 * n) ns) ≡ drop (8 * s.bulk) ns = λ ns. drop-drop (8 * s.bulk - 8 * n) (8 * n) ns ∙ ap (λ (m : ℕ). drop m ns) left in
+    let all : 9 * s.bulk + 8 * s.bulk ≡ working s.bulk = omega arith in
+    let same : drop (8 * s.bulk) notes ≡ drop (8 * s.bulk) back = sym (past notes) ∙ ap (drop (8 * s.bulk - 8 * n)) k.behind ∙ past back in
+    record {
+      as_long = omega (arith, length-append front notes, front_long, back_long, k.as_long, room);
+      behind = ap (λ (m : ℕ). drop m (front ++ notes)) (sym all) ∙ sym (drop-drop-sum (9 * s.bulk) (8 * s.bulk) (front ++ notes)) ∙ ap (drop (8 * s.bulk)) (drop_at front notes (9 * s.bulk) front_long)
+          ∙ same ∙ ap (drop (8 * s.bulk)) f ∙ drop-drop-sum (9 * s.bulk) (8 * s.bulk) work ∙ ap (λ (m : ℕ). drop m work) all;
+    }
+  where
+    drop-drop-sum : (a b : ℕ) (ns : List ℕ) → drop b (drop a ns) ≡ drop (a + b) ns
+    drop-drop-sum a b ns = drop-drop b a ns ∙ ap (λ (m : ℕ). drop m ns) (omega arith)

@@ -12,7 +12,7 @@ use Rattle.layout.specs.Sheets.{looks_of}
 use Rattle.layout.specs.Books.{sheet_at, bytes_at, pages_in, paragraphs_at, lines_in, pages_by}
 use Rattle.layout.proofs.BookLines.{lines_of_bytes}
 use Rattle.layout.proofs.OpenBooks.{sheet_of, pages_of_book}
-use Rattle.layout.proofs.PageLines.{take_of_part}
+use Rattle.layout.proofs.Cuts.{take_of_part}
 
 pub pages_take :
     (ts rs : List ℕ) (a b : ℕ) → is_open (length ts) rs ≡ true → 2 * get_or rs 1 0 ≤ a → 64 + 4 * get_or rs 0 0 ≤ b → pages_in (take a ts) (take b rs) ≡ pages_in ts rs

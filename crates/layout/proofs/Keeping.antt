@@ -1,11 +1,12 @@
 -- One paragraph after another is broken in the working part of the same book.
-use Rattle.std.proofs.Common.{◌≡◌, ◌*◌, drop, ◌∙◌}
+use Rattle.std.proofs.Common.{◌≡◌, drop, ◌∙◌}
+use Rattle.layout.specs.Sheets.{working}
 use Rattle.layout.specs.Keeping.{Keeps}
 use Rattle.layout.specs.declared.book.Book.{Book}
 
 pub keeps_more : (a b c : Book) → Keeps a b → Keeps b c → Keeps a c
 keeps_more a b c p q =
-    let behind : drop (9 * a.sheet.bulk) c.work.now ≡ drop (9 * a.sheet.bulk) b.work.now = rw p.sheet at q.behind in
+    let behind : drop (working a.sheet.bulk) c.work.now ≡ drop (working a.sheet.bulk) b.work.now = rw p.sheet at q.behind in
     record {
       sheet = q.sheet ∙ p.sheet;
       paragraphs = q.paragraphs ∙ p.paragraphs;

@@ -12,7 +12,7 @@ use Rattle.store.proofs.Cutting.{length_of_book, bytes_of_book}
 use Rattle.store.proofs.Looking.{open_parts, kept_same}
 use Rattle.store.proofs.Makes.{numbers_at}
 use Rattle.store.proofs.Tables.{entries_take}
-use Rattle.layout.specs.Sheets.{looks_of}
+use Rattle.layout.specs.Sheets.{looks_of, working}
 use Rattle.layout.specs.Books.{sheet_at, bytes_at, pages_in, start_at, worked, paragraphs_at, pages_by, LookedAt, InFront}
 use Rattle.layout.specs.declared.sheet.Sheet.{Sheet}
 use Rattle.layout.proofs.BookLines.{lines_of_bytes}
@@ -26,7 +26,7 @@ pub record InRange (ts rs : List ℕ) : Type 0 where
   pub within : get_or rs 4 0 ≤ get_or rs 0 0
   pub bulk : get_or rs 3 0 ≤ 4096
   pub width : get_or rs 10 0 ≤ 1000
-  pub room : start_at rs + 9 * get_or rs 3 0 ≤ length rs
+  pub room : start_at rs + working (get_or rs 3 0) ≤ length rs
 
 pub in_range : (ts rs : List ℕ) → is_open (length ts) rs ≡ true → InRange ts rs
 in_range ts rs e =
@@ -91,14 +91,14 @@ module _ {ts rs : List ℕ} {k : Kept} (book : LookedAt ts rs k) {n : ℕ} (long
   starts : n ≡ start_at rs
   starts = long ∙ ap (λ (j : Kept). 64 + 4 * j.limits.paragraphs) book.kept
 
-  pub cut_room : n + 9 * get_or rs 3 0 ≤ length rs
+  pub cut_room : n + working (get_or rs 3 0) ≤ length rs
   cut_room = let r = in_range ts rs book.opened in omega (arith, r.room, starts)
 
   module _ {front work : List ℕ} (before : front ≡ take n rs) (behind : work ≡ drop n rs) where
     front_cut : front ≡ take (start_at rs) rs
     front_cut = before ∙ ap (λ m. take m rs) starts
 
-    pub stands_apart : InFront ts front k × (9 * k.limits.bulk ≤ length work)
+    pub stands_apart : InFront ts front k × (working k.limits.bulk ≤ length work)
     stands_apart = (in_front ts rs book.opened front front_cut k book.kept, omega (arith, cut_room, ap length behind, length-drop n rs, ap (λ (j : Kept). j.limits.bulk) book.kept))
 
     pub pages_there : {s : Sheet} {ps : List (List ℕ)} → s ≡ sheet_at front → ps ≡ paragraphs_at ts front → pages_in ts rs ≡ pages_by s ps
@@ -109,13 +109,13 @@ module _ {ts rs : List ℕ} {k : Kept} (book : LookedAt ts rs k) {n : ℕ} (long
 
     -- when what was used of the part for work is 0 again
     pub cleaned :
-        {s t : Sheet} {made clean : List ℕ} (used : List ℕ) → s ≡ sheet_at front → t ≡ s → made ≡ work → drop (9 * s.bulk) used ≡ drop (9 * s.bulk) made →
-        clean ≡ cleared (9 * t.bulk) used → front ++ clean ≡ worked rs
+        {s t : Sheet} {made clean : List ℕ} (used : List ℕ) → s ≡ sheet_at front → t ≡ s → made ≡ work → drop (working s.bulk) used ≡ drop (working s.bulk) made →
+        clean ≡ cleared (working t.bulk) used → front ++ clean ≡ worked rs
     cleaned {s} {t} {made} {clean} used sheet same made_is behind_is clean_is =
         let looks : s ≡ sheet_at rs = sheet ∙ sheet_in_front ts rs book.opened front front_cut in
-        let bulk : 9 * s.bulk ≡ 9 * get_or rs 3 0 = ap (λ (x : Sheet). 9 * x.bulk) looks in
+        let bulk : working s.bulk ≡ working (get_or rs 3 0) = ap (λ (x : Sheet). working x.bulk) looks in
         let at_start : work ≡ drop (start_at rs) rs = behind ∙ ap (λ m. drop m rs) starts in
-        let zeros : List ℕ = replicate (9 * s.bulk) 0 in
-        let kept : clean ≡ zeros ++ drop (9 * s.bulk) used = clean_is ∙ ap (λ (x : Sheet). cleared (9 * x.bulk) used) same in
+        let zeros : List ℕ = replicate (working s.bulk) 0 in
+        let kept : clean ≡ zeros ++ drop (working s.bulk) used = clean_is ∙ ap (λ (x : Sheet). cleared (working x.bulk) used) same in
         ap₂ (λ (xs ys : List ℕ). xs ++ ys) front_cut
-        (kept ∙ (ap (λ xs. zeros ++ xs) (behind_is ∙ ap (drop (9 * s.bulk)) (made_is ∙ at_start)) ∙ ap (λ m. cleared m (drop (start_at rs) rs)) bulk))
+        (kept ∙ (ap (λ xs. zeros ++ xs) (behind_is ∙ ap (drop (working s.bulk)) (made_is ∙ at_start)) ∙ ap (λ m. cleared m (drop (start_at rs) rs)) bulk))

@@ -1,11 +1,15 @@
 -- Letters placed in a row, as bytes, written one by one and word by word.
-use Rattle.std.proofs.Common.{◌≡◌, ℕ, suc, ◌+◌, ◌-◌, ◌*◌, ◌<◌, ◌≤◌, ltb, List, [], ◌∷◌, ◌++◌, length, get_or, drop, sym, refl, ap, ◌∙◌, ap₂, arith}
+use Rattle.std.proofs.Common.{◌≡◌, ℕ, suc, ◌+◌, ◌-◌, ◌*◌, ◌<◌, ◌≤◌, ltb, List, [], ◌∷◌, ◌++◌, length, sym, refl, ap, ◌∙◌, ap₂, arith}
 use borrow.Rule.Slice.PartMut.{put_mid}
-use Rattle.std.proofs.lemmas.List.{length-append, at_drop_more, at_drop_all}
-use Rattle.meaning.specs.Text.{pick}
+use Rattle.std.proofs.lemmas.List.{length-append}
+use Rattle.meaning.specs.Text.{pick, ch}
 use Rattle.meaning.specs.Lines.{Word, Placed, long, place_letters, place_words}
+use Rattle.meaning.specs.Promise.{letters_of}
 use Rattle.wire.specs.Bytes.{four, letters_bytes, over}
 use Rattle.wire.proofs.Answered.{length_letters_bytes}
+use Rattle.words.specs.Atoms.{decoded, atom_of, FirstAtom}
+use Rattle.words.specs.declared.atoms.Atom.{Atom}
+use Rattle.words.specs.declared.atoms.Atom.TheVariants.{Letter, Gap, Mark, Note}
 use Rattle.layout.specs.Rows.{letters_in}
 use Rattle.layout.proofs.Writing.{written, written_none, written_more, length_written}
 
@@ -48,40 +52,73 @@ pub words_bytes_more :
 unfolding place_words
 words_bytes_more wide x w ws each extra = letters_bytes_append (place_letters wide x w.letters) _
 
--- the letters before place i are written: what is left to write makes it the word
-pub record Lettered (wide : ℕ → ℕ) (cs : List ℕ) (x : ℕ) (before out : List ℕ) (i place : ℕ) : Type 0 where
-  pub bytes : written (5 * i) (word_bytes wide place (drop i cs)) out ≡ over (word_bytes wide x cs) before
-  pub as_long : length out ≡ length before
-  pub near : place ≤ x + 255 * i
+-- the letters of a part
+abbrev pub letters_at : List ℕ → List ℕ
+letters_at part = letters_of (decoded part)
 
-module _ {wide : ℕ → ℕ} {cs : List ℕ} {x : ℕ} {before out : List ℕ} {i place : ℕ} (h : Lettered wide cs x before out i place) where
+letter_first : {rest later : List ℕ} {c : ℕ} → FirstAtom rest (ch c) later → letters_at rest ≡ c ∷ letters_at later
+unfolding letters_of
+letter_first f = ap letters_of f.atoms
+
+no_letter_first : {rest later : List ℕ} (a : Atom) → ((c : ℕ) → a ≡ Letter c → ⊥) → FirstAtom rest (atom_of a) later → letters_at rest ≡ letters_at later
+unfolding letters_of
+no_letter_first (Letter c) none f = absurd (none c refl)
+no_letter_first Gap none f = ap letters_of f.atoms
+no_letter_first (Mark l) none f = ap letters_of f.atoms
+no_letter_first (Note text) none f = ap letters_of f.atoms
+
+-- the letters before the rest of a word's numbers are written: what is left to write makes it the word
+pub record Lettered (wide : ℕ → ℕ) (part : List ℕ) (x : ℕ) (before rest out : List ℕ) (letters place : ℕ) : Type 0 where
+  pub bytes : written (5 * letters) (word_bytes wide place (letters_at rest)) out ≡ over (word_bytes wide x (letters_at part)) before
+  pub as_long : length out ≡ length before
+  pub count : letters + length (letters_at rest) ≡ length (letters_at part)
+  pub near : place ≤ x + 255 * letters
+
+module _ {wide : ℕ → ℕ} {part : List ℕ} {x : ℕ} {before rest out : List ℕ} {letters place : ℕ} (h : Lettered wide part x before rest out letters place) where
+  -- there is room for the letter
+  pub lettered_room : {c : ℕ} {later : List ℕ} → FirstAtom rest (ch c) later → letters < length (letters_at part)
+  lettered_room f = omega (arith, h.count, ap length (letter_first f))
+
   pub lettered_more :
-      (c w n : ℕ) (part : List ℕ) → 5 * length cs ≤ length before → i < length cs → c ≡ get_or cs i 0 → w ≡ wide c → w ≤ 255 → n ≡ 5 →
-      part ≡ c ∷ four place → Lettered wide cs x before (put_mid (5 * i) n out part) (i + 1) (place + w)
-  lettered_more c w n part fits l e f small five g =
-      let now : put_mid (5 * i) n out part ≡ written (5 * i) (c ∷ four place) out = ap₂ (λ (k : ℕ) (bs : List ℕ). put_mid (5 * i) k out bs) five g in
-      let room : 5 * i + length (c ∷ four place) ≤ length out = omega (arith, fits, h.as_long, l) in
-      let left : List ℕ = word_bytes wide (place + w) (drop (i + 1) cs) in
-      let bytes_left : word_bytes wide place (drop i cs) ≡ (c ∷ four place) ++ left =
-      at_drop_more (word_bytes wide place) cs i 0 l
-      ∙ ap (λ (d : ℕ). word_bytes wide place (d ∷ drop (i + 1) cs)) (sym e)
-      ∙ word_bytes_more wide place c (drop (i + 1) cs)
-      ∙ ap (λ (d : ℕ). (c ∷ four place) ++ word_bytes wide (place + d) (drop (i + 1) cs)) (sym f)
+      {c w n : ℕ} {later bytes : List ℕ} → FirstAtom rest (ch c) later → 5 * length (letters_at part) ≤ length before → w ≡ wide c → w ≤ 255 → n ≡ 5 →
+      bytes ≡ c ∷ four place → Lettered wide part x before later (put_mid (5 * letters) n out bytes) (letters + 1) (place + w)
+  lettered_more {c} {w} {n} {later} {bytes} f fits e small five g =
+      let now : put_mid (5 * letters) n out bytes ≡ written (5 * letters) (c ∷ four place) out = ap₂ (λ (k : ℕ) (bs : List ℕ). put_mid (5 * letters) k out bs) five g in
+      let many : length (letters_at rest) ≡ suc (length (letters_at later)) = ap length (letter_first f) in
+      let room : 5 * letters + length (c ∷ four place) ≤ length out = omega (arith, fits, h.as_long, h.count, many) in
+      let left : List ℕ = word_bytes wide (place + w) (letters_at later) in
+      let bytes_left : word_bytes wide place (letters_at rest) ≡ (c ∷ four place) ++ left =
+      ap (word_bytes wide place) (letter_first f)
+      ∙ word_bytes_more wide place c (letters_at later)
+      ∙ ap (λ (d : ℕ). (c ∷ four place) ++ word_bytes wide (place + d) (letters_at later)) (sym e)
       in
-      let place_now : 5 * (i + 1) ≡ 5 * i + length (c ∷ four place) = omega arith in
+      let behind : 5 * (letters + 1) ≡ 5 * letters + length (c ∷ four place) = omega arith in
       record {
         bytes =
-            ap₂ (λ (n : ℕ) (o : List ℕ). written n left o) place_now now
-            ∙ written_more out (5 * i) (c ∷ four place) left room
-            ∙ ap (λ (bs : List ℕ). written (5 * i) bs out) (sym bytes_left)
+            ap₂ (λ (n : ℕ) (o : List ℕ). written n left o) behind now
+            ∙ written_more out (5 * letters) (c ∷ four place) left room
+            ∙ ap (λ (bs : List ℕ). written (5 * letters) bs out) (sym bytes_left)
             ∙ h.bytes;
-        as_long = ap length now ∙ length_written (5 * i) (c ∷ four place) out room ∙ h.as_long;
+        as_long = ap length now ∙ length_written (5 * letters) (c ∷ four place) out room ∙ h.as_long;
+        count = omega (arith, h.count, many);
         near = omega (arith, h.near, small);
       }
 
-  pub lettered_all : length cs ≤ i → out ≡ over (word_bytes wide x cs) before
-  unfolding letters_bytes place_letters
-  lettered_all l =
-      sym (written_none (5 * i) out)
-      ∙ ap (λ (bs : List ℕ). written (5 * i) bs out) (sym (at_drop_all (word_bytes wide place) cs i l))
-      ∙ h.bytes
+  pub lettered_same : {later : List ℕ} (a : Atom) → ((c : ℕ) → a ≡ Letter c → ⊥) → FirstAtom rest (atom_of a) later → Lettered wide part x before later out letters place
+  lettered_same {later} a none f =
+      let same : letters_at rest ≡ letters_at later = no_letter_first a none f in
+      record {
+        bytes = ap (λ (cs : List ℕ). written (5 * letters) (word_bytes wide place cs) out) (sym same) ∙ h.bytes;
+        as_long = h.as_long;
+        count = omega (arith, h.count, ap length same);
+        near = h.near;
+      }
+
+  pub lettered_all : decoded rest ≡ [] → (letters ≡ length (letters_at part)) × (out ≡ over (word_bytes wide x (letters_at part)) before)
+  unfolding letters_of letters_bytes place_letters
+  lettered_all e = (
+    omega (arith, h.count, ap (λ xs. length (letters_of xs)) e),
+    sym (written_none (5 * letters) out)
+        ∙ ap (λ (xs : List _). written (5 * letters) (word_bytes wide place (letters_of xs)) out) (sym e)
+        ∙ h.bytes,
+  )

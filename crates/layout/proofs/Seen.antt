@@ -1,11 +1,11 @@
--- How far a walk has come that seeks a page.
-use Rattle.std.proofs.Common.{◌≡◌, ℕ, ◌+◌, ◌≤◌, false, ◌||◌, eqb, ltb, ◌⊎◌, List, [], ◌∷◌, length, sym, refl, ap, ◌∙◌, inl, inr, arith}
+-- How far a walk has come that seeks lines of a page.
+use Rattle.std.proofs.Common.{◌≡◌, ℕ, ◌+◌, ◌≤◌, true, false, ◌||◌, eqb, ltb, ◌⊎◌, List, [], ◌∷◌, length, sym, refl, ap, ◌∙◌, subst, inl, inr, arith}
 use Rattle.std.proofs.lemmas.Bool.{true≢false, cases_Bool}
 use Rattle.meaning.proofs.Picks.{pick_both}
-use Rattle.layout.specs.Walks.{stepped, has_reached, sought}
+use Rattle.layout.specs.Walks.{stepped, goes_past, found_line, searched}
 use Rattle.layout.specs.declared.walk.Walk.{Walk}
-use Rattle.layout.specs.declared.walk.Goal.{Goal}
-use Rattle.layout.proofs.Seeking.{sought_on, sought_reached}
+use Rattle.layout.specs.declared.search.Search.{Search}
+use Rattle.layout.proofs.Searching.{found_done, found_on}
 
 -- lines that the walk has seen
 abbrev pub seen : Walk → ℕ
@@ -21,36 +21,66 @@ Turns w v = ((v.pages ≡ w.pages) × (v.before ≡ w.before)) ⊎ (seen w ≤ v
 step_turns : (rows h : ℕ) (w : Walk) → Turns w (stepped rows w h)
 step_turns rows h w = pick_both (eqb w.lines 0 || ltb rows (w.rows + h)) _ _ (Turns w) (λ _. inr (omega arith)) (λ _. inl (refl, refl))
 
-turns_more : (u w v : Walk) → seen w ≡ seen u + 1 → Turns u w → Turns w v → Turns u v
+-- one line more: the walk is done and stays, or has seen it
+pub record Moves (rows h : ℕ) (s t : Search) : Type 0 where
+  pub goal : t.goal ≡ s.goal
+  pub turns : Turns s.walk t.walk
+  pub no_less : seen s.walk ≤ seen t.walk
+  pub no_more : seen t.walk ≤ seen s.walk + 1
+  pub on : t.done ≡ false → (s.done ≡ false) × (seen t.walk ≡ seen s.walk + 1)
+
+moves_stay : (rows h : ℕ) (s t : Search) → t.goal ≡ s.goal → t.walk ≡ s.walk → t.done ≡ true → Moves rows h s t
+moves_stay rows h s t e f d =
+    record {
+      goal = e;
+      turns = inl (ap (λ (w : Walk). w.pages) f, ap (λ (w : Walk). w.before) f);
+      no_less = omega (arith, ap seen f);
+      no_more = omega (arith, ap seen f);
+      on = λ z. absurd (true≢false (sym d ∙ z));
+    }
+
+pub moves : (rows h : ℕ) (s : Search) → Moves rows h s (found_line rows s h)
+moves rows h s =
+    elim (cases_Bool s.done) [
+      | inl d ↦ subst (Moves rows h s) (sym (found_done rows h s d)) (moves_stay rows h s s refl refl d)
+      | inr d ↦
+          let v : Walk = stepped rows s.walk h in
+          subst (Moves rows h s) (sym (found_on rows h s d))
+          (pick_both (goes_past s.goal v) _ _ (Moves rows h s)
+          (λ _. moves_stay rows h s _ refl refl refl)
+          (λ _.
+          record {
+            goal = refl;
+            turns = step_turns rows h s.walk;
+            no_less = omega (arith, step_seen rows h s.walk);
+            no_more = omega (arith, step_seen rows h s.walk);
+            on = λ _. (d, step_seen rows h s.walk);
+          }))
+    ]
+
+turns_more : (u w v : Walk) → seen u ≤ seen w → Turns u w → Turns w v → Turns u v
 turns_more u w v s (inl (p, b)) (inl (q, d)) = inl (q ∙ p, d ∙ b)
 turns_more u w v s (inl (p, b)) (inr h) = inr (omega (arith, s))
 turns_more u w v s (inr h) (inl (q, d)) = inr (omega (arith, d))
 turns_more u w v s (inr h) (inr k) = inr (omega (arith, s))
 
-module _ (rows : ℕ) (goal : Goal) where
-  pub sought_turns : (hs : List ℕ) (w : Walk) → Turns w (sought rows goal hs w)
-  unfolding sought
-  sought_turns [] w = inl (refl, refl)
-  sought_turns (h ∷ hs) w =
-      pick_both (has_reached goal w) w (sought rows goal hs (stepped rows w h)) (Turns w) (λ _. inl (refl, refl))
-      (λ _. turns_more w (stepped rows w h) (sought rows goal hs (stepped rows w h)) (step_seen rows h w) (step_turns rows h w) (sought_turns hs (stepped rows w h)))
+-- and several
+pub record MovesAll (n : ℕ) (s t : Search) : Type 0 where
+  pub goal : t.goal ≡ s.goal
+  pub turns : Turns s.walk t.walk
+  pub no_less : seen s.walk ≤ seen t.walk
+  pub on : t.done ≡ false → (s.done ≡ false) × (seen t.walk ≡ seen s.walk + n)
 
-  pub sought_seen_le : (hs : List ℕ) (w : Walk) → seen w ≤ seen (sought rows goal hs w)
-  unfolding sought
-  sought_seen_le [] w = omega arith
-  sought_seen_le (h ∷ hs) w =
-      pick_both (has_reached goal w) w (sought rows goal hs (stepped rows w h)) (λ (v : Walk). seen w ≤ seen v) (λ _. omega arith)
-      (λ _. omega (arith, step_seen rows h w, sought_seen_le hs (stepped rows w h)))
-
-  -- a walk that goes on has seen all lines
-  pub sought_seen : (hs : List ℕ) (w : Walk) → has_reached goal (sought rows goal hs w) ≡ false → seen (sought rows goal hs w) ≡ seen w + length hs
-  unfolding sought
-  sought_seen [] w e = omega arith
-  sought_seen (h ∷ hs) w e =
-      elim (cases_Bool (has_reached goal w)) [
-        | inl r ↦ absurd (true≢false (sym r ∙ ap (has_reached goal) (sym (sought_reached rows goal (h ∷ hs) w r)) ∙ e))
-        | inr r ↦
-            let on = sought_on rows goal h hs w r in
-            ap seen on
-            ∙ (sought_seen hs (stepped rows w h) (ap (has_reached goal) (sym on) ∙ e) ∙ omega (arith, step_seen rows h w))
-      ]
+pub moves_all : (rows : ℕ) (hs : List ℕ) (s : Search) → MovesAll (length hs) s (searched rows hs s)
+unfolding searched
+moves_all rows [] s = record { goal = refl; turns = inl (refl, refl); no_less = omega arith; on = λ d. (d, omega arith) }
+moves_all rows (h ∷ hs) s =
+    let t : Search = found_line rows s h in
+    let one = moves rows h s in
+    let all = moves_all rows hs t in
+    record {
+      goal = all.goal ∙ one.goal;
+      turns = turns_more s.walk t.walk (searched rows hs t).walk one.no_less one.turns all.turns;
+      no_less = omega (arith, one.no_less, all.no_less);
+      on = λ d. ((one.on (all.on d).0).0, omega (arith, (all.on d).1, (one.on (all.on d).0).1));
+    }

@@ -16,7 +16,7 @@ use Rattle.words.specs.Atoms.{cleared}
 use Rattle.store.specs.Kept.{kept_at, entries_at, table_sum, looks_at, is_open}
 use Rattle.store.specs.Paragraphs.{paragraphs_in}
 use Rattle.store.specs.declared.kept.Kept.{Kept}
-use Rattle.layout.specs.Sheets.{looks_of, paragraph_lines}
+use Rattle.layout.specs.Sheets.{looks_of, working, paragraph_lines}
 use Rattle.layout.specs.declared.sheet.Sheet.{Sheet}
 
 abbrev pub sheet_at : List ℕ → Sheet
@@ -40,7 +40,7 @@ abbrev pub start_at : List ℕ → ℕ
 start_at rs = 64 + 4 * slice_index rs 0
 
 abbrev pub worked : List ℕ → List ℕ
-worked rs = take (start_at rs) rs ++ cleared (9 * slice_index rs 3) (drop (start_at rs) rs)
+worked rs = take (start_at rs) rs ++ cleared (working (slice_index rs 3)) (drop (start_at rs) rs)
 
 abbrev pub paragraphs_at : List ℕ → List ℕ → List (List ℕ)
 paragraphs_at ts rs = paragraphs_in ts (entries_at rs)

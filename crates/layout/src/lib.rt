@@ -3,10 +3,13 @@
 
 mod book;
 mod line;
+mod notes;
 mod paragraph;
 mod rows;
+mod search;
 mod sheet;
 mod walk;
+mod work;
 
-pub use book::{Wanted, count_pages, show_rows};
+pub use book::{PageShape, Wanted, count_pages, page_shape, show_rows};
 pub use walk::{Walk, walk_fills};

@@ -1,29 +1,40 @@
-// A paragraph read, split into words and broken into its best lines, in the working part of its book.
-ghost use Rattle.std.specs.Prelude.{◌≡◌, length, replicate};
-ghost use Rattle.meaning.specs.Calls.{letters_of};
+// A paragraph or a note in its best lines.
+ghost use Rattle.std.specs.Prelude.{◌≡◌, ◌*◌, ◌≤◌, true, length};
+ghost use Rattle.meaning.specs.Promise.{all_below};
 ghost use Rattle.linebreak.specs.Lines.{lines_of};
 ghost use Rattle.layout.specs.Rows.{words_of};
-ghost use Rattle.layout.specs.Walks.{sought, Small, Grown};
-ghost use Rattle.layout.specs.Sheets.{atoms_of, slots_of, slot_words, paragraph_words, paragraph_lines, InLines, Broken};
+ghost use Rattle.layout.specs.Sheets.{row_of, slots_of, taken_words, InLines, Broken, NoteBroken};
 
-use crate::book::Book;
-use crate::rows::RowWriter;
 use crate::sheet::Sheet;
-use crate::walk::{Goal, Walk};
 use linebreak::{Lines, SLOT};
 use store::Looks;
-use words::break_into_lines;
+use words::{Taken, break_row};
 
-// A paragraph in its best lines: its atoms, just the slots of its words, and what its lines are set with.
+// Its atoms, just the slots of its words, and what its lines are set with.
 #[derive(Clone, Copy)]
 pub(crate) struct BrokenParagraph<'a> {
     pub(crate) sheet: &'a Sheet,
-    pub(crate) atoms: &'a [u64],
+    pub(crate) row: &'a [u64],
     pub(crate) slots: &'a [u64],
-    ghost lines: { InLines sheet.now (words_of atoms.now slots.now) atoms.now slots.now },
+    ghost lines: { InLines sheet.now (words_of row.now slots.now) row.now slots.now },
 }
 
 impl<'a> BrokenParagraph<'a> {
+    // What stands there takes so much of both parts, which the front of the working part is.
+    pub(crate) fn of(sheet: &'a Sheet, front: &'a [u64], taken: Taken) -> BrokenParagraph<'a>
+        requires { Broken sheet.now (taken_words sheet.now front.now taken) front.now taken }
+        ensures sheet { result.sheet.now ≡ sheet.now }
+        ensures row { result.row.now ≡ row_of taken front.now }
+        ensures slots { result.slots.now ≡ slots_of sheet.now taken front.now }
+    {
+        let (row, slots) = front.split_at(sheet.bulk);
+        BrokenParagraph {
+            sheet,
+            row: &row[..taken.numbers],
+            slots: &slots[..SLOT * taken.words],
+        }
+    }
+
     pub(crate) fn lines(&self) -> Lines<'a>
         ensures { result ≡ lines_of self.now.slots.now }
     {
@@ -31,54 +42,14 @@ impl<'a> BrokenParagraph<'a> {
     }
 }
 
-impl Book<'_, '_, '_> {
-    ghost use Rattle.layout.specs.Keeping.{Keeps};
-    ghost use Rattle.layout.specs.Finishes.{TakesAll};
-
-    // How many words there are, each in its slot behind the atoms. A paragraph that can't be read, which no call leaves in a book, has none.
-    fn break_paragraph(&mut self, tokens: &[u8]) -> usize
-        ensures lines { Broken self.old.sheet (paragraph_words self.old.sheet tokens.now) self.new.work.now result }
-        ensures same { Keeps self.old self.new }
+impl Sheet {
+    // How many words a note has, each in its slot.
+    pub(crate) fn break_note(&self, text: &[u64], slots: &mut [u64]) -> usize
+        requires fits { self.now.looks.width ≤ 1000 }
+        requires text { (all_below 256 text.now ≡ true) × ((length text.now ≤ 4096) × (8 * length text.now ≤ length slots.old)) }
+        ensures { NoteBroken self.now text.now slots.old slots.new result }
     {
-        let sheet = self.sheet;
-        let work = &mut *self.work;
-        let (atoms, slots) = work.split_at_mut(sheet.bulk);
-        let Looks { widths, width, .. } = sheet.looks;
-        break_into_lines(tokens, atoms, slots, &widths, u64::from(width)).unwrap_or(0)
-    }
-
-    // The paragraph that was broken last, of so many words.
-    fn paragraph(&self, words: usize) -> BrokenParagraph<'_>
-        requires { Broken self.now.sheet (slot_words self.now.sheet self.now.work.now words) self.now.work.now words }
-        ensures sheet { result.sheet.now ≡ self.now.sheet }
-        ensures atoms { result.atoms.now ≡ atoms_of self.now.sheet self.now.work.now }
-        ensures slots { result.slots.now ≡ slots_of self.now.sheet self.now.work.now words }
-    {
-        let (atoms, slots) = self.work.split_at(self.sheet.bulk);
-        BrokenParagraph {
-            sheet: &self.sheet,
-            atoms,
-            slots: &slots[..SLOT * words],
-        }
-    }
-
-    // A walk over the lines of a paragraph, each of one row, until the goal is reached.
-    pub(crate) fn walk_paragraph(&mut self, tokens: &[u8], goal: Goal, walk: Walk) -> Walk
-        requires { Small walk }
-        ensures value { result ≡ sought self.old.sheet.looks.rows goal (replicate (length (paragraph_lines self.old.sheet tokens.now)) 1) walk }
-        ensures grown { Grown 4096 walk result }
-        ensures same { Keeps self.old self.new }
-    {
-        let words = self.break_paragraph(tokens);
-        self.paragraph(words).walk(goal, walk)
-    }
-
-    // The lines of a paragraph, as far as rows are wanted.
-    pub(crate) fn take_paragraph(&mut self, tokens: &[u8], rows: &mut RowWriter)
-        ensures rows { TakesAll rows.old rows.new (letters_of (paragraph_lines self.old.sheet tokens.now)) }
-        ensures same { Keeps self.old self.new }
-    {
-        let words = self.break_paragraph(tokens);
-        self.paragraph(words).take_lines(rows);
+        let Looks { widths, width, .. } = self.looks;
+        break_row(text, slots, &widths, u64::from(width))
     }
 }

@@ -1,7 +1,7 @@
 // Pages filled line by line.
 ghost use Rattle.std.specs.Prelude.{◌≡◌, ◌+◌, ◌^◌, ◌<◌};
 ghost use Rattle.layout.specs.Fills.{WalkFills};
-ghost use Rattle.layout.specs.Walks.{stepped, has_reached};
+ghost use Rattle.layout.specs.Walks.{stepped};
 
 // Where the walk is: how many pages are begun, how many lines are on those before the last of them, and of that one how many lines it has and
 // how many rows they take with their notes.
@@ -11,13 +11,6 @@ pub struct Walk {
     pub before: usize,
     pub lines: usize,
     pub rows: usize,
-}
-
-// So many lines of a page: there is no need to walk on.
-#[derive(Clone, Copy)]
-pub(crate) struct Goal {
-    pub(crate) page: usize,
-    pub(crate) lines: usize,
 }
 
 impl Walk {
@@ -40,13 +33,6 @@ impl Walk {
                 ..self
             }
         }
-    }
-
-    // Whether the page has the lines that are asked for, or is done with.
-    pub(crate) fn has_reached(self, goal: Goal) -> bool
-        ensures { result ≡ has_reached goal self }
-    {
-        self.pages > goal.page && (self.pages - goal.page > 1 || self.lines >= goal.lines)
     }
 }
 

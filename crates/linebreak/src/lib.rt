@@ -10,8 +10,8 @@ mod lines;
 
 pub use lines::Lines;
 
-// A slot has eight numbers: 0 the word's first atom, 1 how many atoms it has, 2 its width, 3 the least cost from this word to the end,
-// 4 how many words the first line of that best way has, and 5 to 7 for later.
+// A slot has eight numbers: 0 where the word begins in a row of atoms, 1 how many numbers it has there, 2 its width,
+// 3 the least cost from this word to the end, 4 how many words the first line of that best way has, and 5 to 7 for later.
 pub const SLOT: usize = 8;
 
 pub const WIDTH: usize = 2;

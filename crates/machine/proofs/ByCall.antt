@@ -7,16 +7,17 @@ use Rattle.meaning.specs.Pages.{Looks, book}
 use Rattle.meaning.specs.Calls.{Call, put, cut, define, show, where_is, how_many, put_in, Limits, size, sizes, good, call_number, good_fields, good_call, changed, turned_by, told, place}
 use Rattle.meaning.specs.Promise.{GoodLooks, GoodLimits}
 use Rattle.meaning.proofs.Picks.{pick_true, pick_false}
+use Rattle.meaning.proofs.Nameless.{at_rest_nameless, none_marked}
 use Rattle.wire.specs.Stage.{stage_tokens, stage_calls}
 use Rattle.store.specs.Opened.{limits_of, rest_of}
 use Rattle.store.specs.Kept.{limits_at}
 use Rattle.store.specs.Changes.{put_edit, put_in_edit, cut_edit}
-use Rattle.machine.specs.Setter.{to_edit, unfit, wish_of, wish}
+use Rattle.machine.specs.Setter.{to_edit, unfit, bulk_of, wish_of, wish}
 use Rattle.machine.proofs.Memories.{memory, rest_tells}
 use Rattle.machine.proofs.Edits.{edit_for}
-use Rattle.machine.proofs.Fits.{Good, plain}
+use Rattle.machine.proofs.Fits.{Good, nameless, plain}
 use Rattle.layout.specs.Books.{pages_in}
-use Rattle.machine.proofs.InMemory.{pages_there, at_rest_there, none_marked}
+use Rattle.machine.proofs.InMemory.{pages_there}
 use Rattle.machine.proofs.Steps.{Holds, Step, step_unfit, step_missing, step_edit}
 use Rattle.machine.proofs.Questions.{step_show, step_find, step_count}
 
@@ -49,9 +50,9 @@ within ps k h =
     }
 
 -- a call that brings a paragraph, as an edit for a list of one
-new_edit : (k n : ℕ) (olds : List Tokens) (ts : Tokens) → n ≡ length olds → record { at = k; gone = n; come = 1; bytes = all_written ts; size = size ts } ≡ edit_for k olds (ts ∷ [])
+new_edit : (k n : ℕ) (olds : List Tokens) (ts : Tokens) → n ≡ length olds → record { at = k; gone = n; come = 1; bytes = all_written ts; size = size ts; bulk = bulk_of ts } ≡ edit_for k olds (ts ∷ [])
 unfolding sizes
-new_edit k n olds ts e = rw (e, append-nil (all_written ts), add-zero (size ts)) refl
+new_edit k n olds ts e = rw (e, append-nil (all_written ts), add-zero (size ts), add-zero (bulk_of ts)) refl
 
 module _ (l : Limits) (g : Looks) (good_looks : GoodLooks g) (small : GoodLimits l) (tokens : l.tokens_can ≡ stage_tokens) (calls : l.calls_can ≡ stage_calls) where
   -- the machine has the stage's tokens and calls
@@ -103,7 +104,7 @@ module _ (l : Limits) (g : Looks) (good_looks : GoodLooks g) (small : GoodLimits
   unfolding turned_by place
   put_past ps k ts h can past =
       let rs : List ℕ = rest_of (memory l g ps) in
-      step_missing l g good_looks small ps (put k ts) (put_edit k (all_written ts) (size ts) rs) h (wish_good rs (put k ts) can) (omega arith) can
+      step_missing l g good_looks small ps (put k ts) (put_edit k (all_written ts) (size ts) (bulk_of ts) rs) h (wish_good rs (put k ts) can) (omega arith) can
       (pick_false _ 0 4 (lt-leb k (length ps) past)) refl
 
   cut_within : (ps qs : List Tokens) (p : Tokens) → Holds l (ps ++ (p ∷ qs)) → good_call l (cut (length ps)) ≡ true → Step l g (ps ++ (p ∷ qs)) (cut (length ps))
@@ -132,7 +133,7 @@ module _ (l : Limits) (g : Looks) (good_looks : GoodLooks g) (small : GoodLimits
   put_in_past : (ps : List Tokens) (k : ℕ) (ts : Tokens) → Holds l ps → good_call l (put_in k ts) ≡ true → length ps < k → Step l g ps (put_in k ts)
   unfolding turned_by place
   put_in_past ps k ts h can past =
-      step_missing l g good_looks small ps (put_in k ts) (put_in_edit k (all_written ts) (size ts)) h (wish_good (rest_of (memory l g ps)) (put_in k ts) can) (omega arith) can
+      step_missing l g good_looks small ps (put_in k ts) (put_in_edit k (all_written ts) (size ts) (bulk_of ts)) h (wish_good (rest_of (memory l g ps)) (put_in k ts) can) (omega arith) can
       (pick_false _ 0 4 (lt-leb k (length ps) past)) refl
 
   cannot : (c : Call) → stage_calls (call_number c) ≡ false → good_call l c ≡ true → ⊥
@@ -177,8 +178,8 @@ module _ (l : Limits) (g : Looks) (good_looks : GoodLooks g) (small : GoodLimits
   step_good ps (cut k) h can = cut_step ps k h can
   step_good ps (define k ts) h can = absurd (cannot (define k ts) refl can)
   step_good ps (show k r n) h can = step_show l g good_looks small ps h (there ps h) k r n (wish_good (rest_of (memory l g ps)) (show k r n) can) can
-  step_good ps (where_is q) h can = step_find l g good_looks small ps h (there ps h) q (none_marked g ps h.goods q) (wish_good (rest_of (memory l g ps)) (where_is q) can) can
-  step_good ps how_many h can = step_count l g good_looks small ps h (there ps h) (at_rest_there g ps h.goods) (wish_good (rest_of (memory l g ps)) how_many can) can
+  step_good ps (where_is q) h can = step_find l g good_looks small ps h (there ps h) q (none_marked stage_tokens nameless [] g ps h.goods q) (wish_good (rest_of (memory l g ps)) (where_is q) can) can
+  step_good ps how_many h can = step_count l g good_looks small ps h (there ps h) (at_rest_nameless stage_tokens nameless [] g ps h.goods) (wish_good (rest_of (memory l g ps)) how_many can) can
   step_good ps (put_in k ts) h can = put_in_step ps k ts h can
 
   pub step : (ps : List Tokens) (c : Call) → Holds l ps → Step l g ps c

@@ -8,12 +8,12 @@ use Rattle.store.specs.Opened.{header, tokens_asked, kept_asked}
 use Rattle.store.specs.Kept.{table_sum}
 use Rattle.store.specs.Changes.{Edit, bytes_gone, paragraphs_after, size_after, bytes_after, entry_of, edited_tokens, edited_rest, has_room, spliced}
 use Rattle.machine.proofs.Splices.{padded, spliced_padded}
-use Rattle.machine.proofs.Rows.{forms, entries, forms_append, entries_append, sizes_append, length_entries, length_forms}
+use Rattle.machine.proofs.Rows.{forms, entries, bulks, forms_append, entries_append, sizes_append, length_entries, length_forms}
 use Rattle.machine.proofs.Memories.{header_at, header_for, kept_for, memory, length_header_at, Tells, kept_tells}
 
 -- before paragraph k, old paragraphs give way to new ones
 abbrev pub edit_for : ℕ → List Tokens → List Tokens → Edit
-edit_for k olds news = record { at = k; gone = length olds; come = length news; bytes = forms news; size = sizes news }
+edit_for k olds news = record { at = k; gone = length olds; come = length news; bytes = forms news; size = sizes news; bulk = bulks news }
 
 -- of none or one
 entry_of_edit : (k : ℕ) (olds news : List Tokens) → length news ≤ 1 → entry_of (edit_for k olds news) ≡ entries news
@@ -72,7 +72,7 @@ module _ (l : Limits) (g : Looks) (ps olds qs news : List Tokens) where
     -- the limits let it through if they let the paragraphs through that there would be
     pub room_for :
         has_room e rs
-        ≡ ((leb (sizes news) l.bulk && leb (length (texts news)) l.paragraphs) && (leb (sizes (texts news)) l.tokens && leb (length (forms (texts news))) (2 * l.tokens)))
+        ≡ ((leb (bulks news) l.bulk && leb (length (texts news)) l.paragraphs) && (leb (sizes (texts news)) l.tokens && leb (length (forms (texts news))) (2 * l.tokens)))
     room_for = rw (paragraphs_after_edit, size_after_edit, bytes_after_edit, h.most_bulk, h.most_paragraphs, h.most_tokens) refl
 
   edited_tokens_are :

@@ -1,36 +1,28 @@
--- Whether paragraphs of letters and spaces fit: what one is when its commands are gone is its size.
-use Rattle.std.proofs.Common.{◌≡◌, ℕ, zero, suc, ◌+◌, ◌*◌, ◌≤◌, Bool, true, false, ◌&&◌, leb, List, [], ◌∷◌, ◌++◌, length, sym, refl, ap, ◌∙◌, add-zero, arith}
+-- Whether paragraphs fit, by how much they are together, for a text without definitions.
+use Rattle.std.proofs.Common.{◌≡◌, ℕ, ◌+◌, ◌*◌, ◌≤◌, Bool, true, false, ◌&&◌, leb, List, [], ◌∷◌, ◌++◌, length, sym, refl, ap, ◌∙◌, add-zero, arith}
 use mathlib.Core.Bool.{and-true, and_assoc}
-use Rattle.std.specs.List.{AllByRecursion as All}
-use Rattle.std.proofs.lemmas.Bool.{and_parts, both_ways, le-leb, leb-true}
-use Rattle.meaning.specs.Text.{letter, space, mark, page_of, note, command, given, Tokens, none, more, Atom, Definition, flat, atoms}
-use Rattle.meaning.specs.Calls.{Limits, Text, size, good, good_one, sizes, def_sizes, bulk, short_all, fits}
+use Rattle.std.proofs.lemmas.Bool.{and_parts, le-leb, leb-true}
+use Rattle.meaning.specs.Text.{Tokens, Definition, atoms}
+use Rattle.meaning.specs.Calls.{Limits, Text, sizes, def_sizes, bulk, short_all, fits}
 use Rattle.meaning.proofs.Reached.{GoodTokens}
+use Rattle.meaning.proofs.Nameless.{Nameless}
 use Rattle.wire.specs.Stage.{stage_tokens}
-use Rattle.machine.proofs.Rows.{forms, length_forms}
+use Rattle.machine.specs.Setter.{bulk_of}
+use Rattle.machine.proofs.Rows.{forms, bulks, length_forms}
 
 abbrev pub Good : Tokens → Type 0
 Good p = GoodTokens stage_tokens p
 
-bulk_size : (pg : ℕ → ℕ) (does : ℕ → List Atom → List Atom) (arg : List Atom) (p : Tokens) (d : ℕ) → good stage_tokens p d ≡ true → bulk (flat p pg does arg) ≡ size p
-unfolding bulk stage_tokens
-bulk_size pg does arg none d h = refl
-bulk_size pg does arg (more (letter c) ts) d h = omega (arith, bulk_size pg does arg ts d (and_parts (good_one stage_tokens (letter c) d) (good stage_tokens ts d) h).1)
-bulk_size pg does arg (more space ts) d h = omega (arith, bulk_size pg does arg ts d h)
-bulk_size pg does arg (more (mark l) ts) d h = absurd (both_ways false refl h)
-bulk_size pg does arg (more (page_of l) ts) d h = absurd (both_ways false refl h)
-bulk_size pg does arg (more (note us) ts) zero h = absurd (both_ways false refl h)
-bulk_size pg does arg (more (note us) ts) (suc d) h = absurd (both_ways false refl h)
-bulk_size pg does arg (more (command k us) ts) zero h = absurd (both_ways false refl h)
-bulk_size pg does arg (more (command k us) ts) (suc d) h = absurd (both_ways false refl h)
-bulk_size pg does arg (more given ts) d h = absurd (both_ways false refl h)
+pub nameless : Nameless stage_tokens
+unfolding stage_tokens
+nameless = record { marks = refl; numbers = refl; commands = refl; given = refl }
 
 -- none or one
-short_one : (b : ℕ) (ds : List Definition) (ps : List Tokens) → length ps ≤ 1 → All Good ps → short_all b ds ps ≡ leb (sizes ps) b
-unfolding short_all sizes
-short_one b ds [] h goods = sym (le-leb 0 b (omega arith))
-short_one b ds (p ∷ []) h goods = rw (bulk_size (λ l. 99999999) _ [] p 16 goods.0, add-zero (size p)) (and-true (leb (size p) b))
-short_one b ds (p ∷ (q ∷ ps)) h goods = absurd (omega arith)
+short_one : (b : ℕ) (ps : List Tokens) → length ps ≤ 1 → short_all b [] ps ≡ leb (bulks ps) b
+unfolding short_all
+short_one b [] h = sym (le-leb 0 b (omega arith))
+short_one b (p ∷ []) h = rw (add-zero (bulk_of p)) (and-true (leb (bulk_of p) b))
+short_one b (p ∷ (q ∷ ps)) h = absurd (omega arith)
 
 short_append : (b : ℕ) (ds : List Definition) (ps qs : List Tokens) → short_all b ds (ps ++ qs) ≡ (short_all b ds ps && short_all b ds qs)
 unfolding short_all
@@ -62,20 +54,20 @@ fitting l ps e =
 
 -- with one paragraph for another, the four tests of room are those of the text's fit: bytes are at most two for a token
 pub fits_room :
-    (l : Limits) (ps olds qs news : List Tokens) → length news ≤ 1 → All Good news → fits l (plain (ps ++ (olds ++ qs))) ≡ true →
-    ((leb (sizes news) l.bulk && leb (length (ps ++ (news ++ qs))) l.paragraphs)
+    (l : Limits) (ps olds qs news : List Tokens) → length news ≤ 1 → fits l (plain (ps ++ (olds ++ qs))) ≡ true →
+    ((leb (bulks news) l.bulk && leb (length (ps ++ (news ++ qs))) l.paragraphs)
     && (leb (sizes (ps ++ (news ++ qs))) l.tokens && leb (length (forms (ps ++ (news ++ qs)))) (2 * l.tokens)))
     ≡ fits l (plain (ps ++ (news ++ qs)))
 unfolding def_sizes
-fits_room l ps olds qs news one goods e =
+fits_room l ps olds qs news one e =
     let us : List Tokens = ps ++ (news ++ qs) in
     let b : ℕ = l.bulk in
     let before = and_parts (short_all b [] ps) (short_all b [] (olds ++ qs)) (sym (short_append b [] ps (olds ++ qs)) ∙ (fitting l (ps ++ (olds ++ qs)) e).all_short) in
     let behind = and_parts (short_all b [] olds) (short_all b [] qs) (sym (short_append b [] olds qs) ∙ before.1) in
-    let short : short_all b [] us ≡ (leb (sizes news) b && true) =
-    short_append b [] ps (news ++ qs) ∙ rw (before.0, short_append b [] news qs, behind.1, short_one b [] news one goods) refl in
+    let short : short_all b [] us ≡ (leb (bulks news) b && true) =
+    short_append b [] ps (news ++ qs) ∙ rw (before.0, short_append b [] news qs, behind.1, short_one b news one) refl in
     rw (short, add-zero (sizes us), le-leb 0 l.definitions (omega arith))
-    (same (leb (sizes news) b) (leb (length us) l.paragraphs) (leb (sizes us) l.tokens) _
+    (same (leb (bulks news) b) (leb (length us) l.paragraphs) (leb (sizes us) l.tokens) _
     (λ h. le-leb (length (forms us)) (2 * l.tokens) (omega (arith, length_forms us, leb-true (sizes us) l.tokens h))))
   where
     same : (x a s y : Bool) → (s ≡ true → y ≡ true) → ((x && a) && (s && y)) ≡ ((a && true) && (s && (x && true)))

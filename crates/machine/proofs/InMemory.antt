@@ -1,29 +1,28 @@
 -- The pages that memory holds are those of the text: paragraphs, looks and limits can all be read back from it.
-use Rattle.std.proofs.Common.{map, inl, inr, lit<, w64, ◌≡◌, ℕ, ◌+◌, ◌-◌, ◌*◌, ◌/◌, ◌%◌, ◌<◌, ◌≤◌, true, false, ◌||◌, leb, List, [], ◌∷◌, ◌++◌, length, get_or, take, drop, replicate, Some, None, Option, sym, refl, ap, ◌∙◌, ap₂, arith}
+use Rattle.std.proofs.Common.{map, inl, inr, lit<, w64, ◌≡◌, ℕ, ◌+◌, ◌-◌, ◌*◌, ◌/◌, ◌%◌, ◌<◌, ◌≤◌, Bool, true, ◌||◌, eqb, ltb, leb, List, [], ◌∷◌, ◌++◌, length, get_or, take, drop, replicate, Some, None, Option, sym, refl, ap, ◌∙◌, ap₂, arith}
 use Rattle.std.specs.Int.{from_le_bytes}
 use Rattle.std.specs.List.{AllByRecursion as All, range_with_len}
 use Rattle.std.proofs.lemmas.Nat.{le_bytes_8}
 use Rattle.std.proofs.lemmas.List.FromFn.{length-map-range_with_len, get_or-map-range_with_len}
-use Rattle.std.proofs.ByRecursion.{All-take, All-drop, All-weaker}
+use Rattle.std.proofs.ByRecursion.{All-weaker}
 use Rattle.std.proofs.lemmas.List.{append_assoc, append-nil, length-append, length_push, take_at, drop_at, get_or_append_left, get_or-append_right, get_or_past}
-use Rattle.std.proofs.lemmas.Bool.{cases_lt, and_parts, false≢true, ltb-true}
-use Rattle.meaning.specs.Text.{Tokens, Atom, ch, gap, tag, foot, atoms, all_written}
-use Rattle.meaning.specs.Lines.{Word, Line, nothing_yet, is_blank, split, tags_of, set_lines, paragraph}
-use Rattle.meaning.specs.Pages.{Looks, Page, fill, among, tagged, page_of, all_lines, pages, book}
-use Rattle.meaning.specs.Calls.{Limits, sizes, bulk, short_all, fits, no_page}
+use Rattle.std.proofs.lemmas.Bool.{cases_lt, cases_Bool, and_parts, ltb-true, eqb-true}
+use Rattle.meaning.specs.Text.{Tokens, Atom, meant, atoms, all_written}
+use Rattle.meaning.specs.Lines.{Line, paragraph}
+use Rattle.meaning.specs.Pages.{Looks, fill, all_lines, book}
+use Rattle.meaning.specs.Calls.{Limits, sizes, bulk, short_all, fits}
 use Rattle.meaning.specs.Promise.{GoodLooks}
-use Rattle.meaning.proofs.Picks.{pick_true, pick_both}
-use Rattle.meaning.proofs.Fills.{lines_of_fill}
-use Rattle.meaning.proofs.Marks.{page_of_none}
-use Rattle.meaning.proofs.Numbers.{NeedsNoNumbers, made_without_numbers, rest_without_numbers}
+use Rattle.meaning.proofs.Picks.{pick_true}
+use Rattle.meaning.proofs.Nameless.{same_atoms, made_nameless}
 use Rattle.meaning.proofs.Drawn.{Letters, Plain, plain_draws, good_letters, good_atoms, all_lines_drawn}
 use Rattle.meaning.proofs.Tables.{Alike, set_same, fill_same, alike_plain}
 use Rattle.wire.specs.Stage.{stage_tokens}
 use Rattle.wire.proofs.Parses.{tokens_of_all_written}
-use Rattle.words.specs.Atoms.{all_plain, plain_atoms, within}
-use Rattle.words.specs.Laws.{Plainly, LettersAndSpaces}
+use Rattle.words.specs.Atoms.{numbers}
+use Rattle.words.specs.Reads.{stage_atoms, within}
+use Rattle.words.specs.Laws.{Readably, LettersSpacesNotes}
 use Rattle.words.specs.Slots.{wide_by}
-use Rattle.words.proofs.Good.{good_plainly}
+use Rattle.words.proofs.Good.{bulk_numbers, good_readably}
 use Rattle.store.specs.Opened.{packed, packed_widths, header, tokens_asked, rest_of}
 use Rattle.store.specs.Kept.{table_sum, bytes_of, widths_at}
 use Rattle.store.proofs.Tables.{table_sum_more}
@@ -32,75 +31,19 @@ use Rattle.layout.specs.Sheets.{looks_of, paragraph_atoms, paragraph_lines}
 use Rattle.layout.specs.Books.{sheet_at, bytes_at, book_lines, pages_in}
 use Rattle.machine.proofs.Rows.{forms, entries, forms_append}
 use Rattle.machine.proofs.Memories.{header_at, header_for, memory, length_header_at, Tells, rest_tells}
-use Rattle.machine.proofs.Fits.{Good, plain, fitting}
+use Rattle.machine.proofs.Fits.{Good, nameless, plain, fitting}
 
 -- the atoms of good tokens
-letters_and_spaces : LettersAndSpaces stage_tokens
+stage_has : LettersSpacesNotes stage_tokens
 unfolding stage_tokens
-letters_and_spaces k h = ltb-true k 2 h
+stage_has k h =
+    elim (cases_Bool (ltb k 2)) [
+      | inl l ↦ inl (ltb-true k 2 l)
+      | inr l ↦ inr (eqb-true k 4 (ap (λ (b : Bool). b || eqb k 4) (sym l) ∙ h))
+    ]
 
-plainly : (p : Tokens) → Good p → (pg : ℕ → ℕ) → Plainly p (atoms [] pg p)
-plainly p h pg = good_plainly stage_tokens letters_and_spaces [] pg p 16 h
-
--- whatever the page numbers are
-same_atoms : (p : Tokens) → Good p → (pg qg : ℕ → ℕ) → atoms [] pg p ≡ atoms [] qg p
-same_atoms p h pg qg = same (atoms [] pg p) (atoms [] qg p) (sym (plainly p h pg).value ∙ (plainly p h qg).value)
-  where
-    same : (xs ys : List Atom) → Some xs ≡ Some ys → xs ≡ ys
-    same xs ys e = cc
-
-no_numbers : (g : Looks) (ps : List Tokens) → All Good ps → NeedsNoNumbers g [] ps
-unfolding all_lines
-no_numbers g [] goods pg qg = refl
-no_numbers g (p ∷ ps) goods pg qg =
-    ap₂ (λ (xs : List Atom) (ls : List Line). paragraph g.wide g.across xs ++ ls) (same_atoms p goods.0 pg qg) (no_numbers g ps goods.1 pg qg)
-
-pub at_rest_there : (g : Looks) (ps : List Tokens) → All Good ps → (book g [] ps).at_rest ≡ true
-at_rest_there g ps goods = rest_without_numbers 6 g [] ps (λ l. 0) (no_numbers g ps goods)
-
-made_there : (g : Looks) (ps : List Tokens) → All Good ps → (book g [] ps).made ≡ pages g [] (λ l. 0) ps
-made_there g ps goods = made_without_numbers 8 g [] ps (λ l. 0) (λ l. 0) (no_numbers g ps goods)
-
--- no line has a mark
-abbrev Unmarked : Word → Type 0
-Unmarked w = w.tags ≡ []
-
-split_unmarked : (xs : List Atom) (w : Word) → all_plain xs ≡ true → Unmarked w → All Unmarked (split xs w)
-unfolding split all_plain
-split_unmarked [] w h e = pick_both (is_blank w) [] (w ∷ []) (All Unmarked) (λ _. tt) (λ _. (e, tt))
-split_unmarked (gap ∷ xs) w h e =
-    let rest = split_unmarked xs nothing_yet h refl in
-    pick_both (is_blank w) (split xs nothing_yet) (w ∷ split xs nothing_yet) (All Unmarked) (λ _. rest) (λ _. (e, rest))
-split_unmarked (ch c ∷ xs) w h e = split_unmarked xs _ (and_parts _ (all_plain xs) h).1 e
-split_unmarked (tag l ∷ xs) w h e = absurd (false≢true h)
-split_unmarked (foot f ∷ xs) w h e = absurd (false≢true h)
-
-no_tags : (ws : List Word) → All Unmarked ws → tags_of ws ≡ []
-unfolding tags_of
-no_tags [] h = refl
-no_tags (w ∷ ws) h = ap₂ (λ (a b : List ℕ). a ++ b) h.0 (no_tags ws h.1)
-
-module _ (q : ℕ) where
-  -- lines without a mark, before others
-  unmarked_lines : (wide : ℕ → ℕ) (w : ℕ) (ws : List Word) (ks : List ℕ) (ls : List Line) → All Unmarked ws → tagged q ls ≡ false → tagged q (set_lines wide w ws ks ++ ls) ≡ false
-  unfolding set_lines tagged among
-  unmarked_lines wide w ws [] ls h e = e
-  unmarked_lines wide w ws (k ∷ ks) ls h e =
-      ap (λ (ts : List ℕ). among q ts || tagged q (set_lines wide w (drop k ws) ks ++ ls)) (no_tags (take k ws) (All-take Unmarked k ws h))
-      ∙ unmarked_lines wide w (drop k ws) ks ls (All-drop Unmarked k ws h) e
-
-  unmarked_all : (g : Looks) (pg : ℕ → ℕ) (ps : List Tokens) → All Good ps → tagged q (all_lines g [] pg ps) ≡ false
-  unfolding all_lines tagged
-  unmarked_all g pg [] goods = refl
-  unmarked_all g pg (p ∷ ps) goods =
-      let xs : List Atom = atoms [] pg p in
-      unmarked_lines g.wide g.across (split xs nothing_yet) _ (all_lines g [] pg ps) (split_unmarked xs nothing_yet (plainly p goods.0 pg).plain refl) (unmarked_all g pg ps goods.1)
-
-pub none_marked : (g : Looks) (ps : List Tokens) → All Good ps → (q : ℕ) → page_of q (book g [] ps).made 1 ≡ 0
-none_marked g ps goods q =
-    let ls : List Line = all_lines g [] (λ l. 0) ps in
-    ap (λ (bs : List Page). page_of q bs 1) (made_there g ps goods)
-    ∙ page_of_none q (fill g ls [] []) 1 (ap (tagged q) (lines_of_fill g ls no_page) ∙ unmarked_all q g (λ l. 0) ps goods)
+readably : (p : Tokens) → Good p → (pg : ℕ → ℕ) → Readably p (atoms [] pg p)
+readably p h pg = good_readably stage_tokens stage_has pg (meant 16 [] pg) [] p 16 h
 
 module _ (wide : ℕ → ℕ) (small : (c : ℕ) → wide c ≤ 63) where
   -- eight widths in a number, a byte each
@@ -184,10 +127,10 @@ module _ (l : Limits) (g : Looks) (ps : List Tokens) where
   atoms_there : (p : Tokens) (pg : ℕ → ℕ) → Good p → leb (bulk (atoms [] (λ k. 99999999) p)) l.bulk ≡ true → paragraph_atoms (sheet_at rs) (all_written p) ≡ atoms [] pg p
   atoms_there p pg h short =
       let xs : List Atom = atoms [] pg p in
-      let few : leb (length xs) (get_or rs 3 0) ≡ true =
-      ap₂ leb (sym (plainly p h pg).size ∙ ap bulk (same_atoms p h pg (λ k. 99999999))) (rest_tells l g ps).most_bulk ∙ short in
-      ap (λ (us : Tokens). atoms_or_none (within (get_or rs 3 0) (plain_atoms us))) (tokens_of_all_written p)
-      ∙ (ap (λ (o : Option (List Atom)). atoms_or_none (within (get_or rs 3 0) o)) (plainly p h pg).value ∙ ap atoms_or_none (pick_true (leb (length xs) (get_or rs 3 0)) (Some xs) None few))
+      let few : leb (length (numbers xs)) (get_or rs 3 0) ≡ true =
+      ap₂ leb (bulk_numbers (atoms [] pg p) ∙ ap bulk (same_atoms stage_tokens nameless [] p h pg (λ k. 99999999))) (rest_tells l g ps).most_bulk ∙ short in
+      ap (λ (us : Tokens). atoms_or_none (within (get_or rs 3 0) (stage_atoms us))) (tokens_of_all_written p)
+      ∙ (ap (λ (o : Option (List Atom)). atoms_or_none (within (get_or rs 3 0) o)) (readably p h pg).value ∙ ap atoms_or_none (pick_true (leb (length (numbers xs)) (get_or rs 3 0)) (Some xs) None few))
 
   module _ (looks : GoodLooks g) where
     like : Alike Plain (looks_of (sheet_at rs)) g
@@ -221,4 +164,4 @@ pages_there l g looks ps fit goods =
     let letters : All (Letters Plain) ps = All-weaker Good (Letters Plain) (λ p. good_letters stage_tokens p 16) ps goods in
     ap (λ (ms : List Line). fill (looks_of (sheet_at rs)) ms [] [])
     (ap (book_lines ts rs 0) (rest_tells l g ps).paragraphs ∙ lines_there l g ps looks (λ k. 0) [] ps refl goods (fitting l ps fit).all_short)
-    ∙ (fill_same Plain (looks_of (sheet_at rs)) g (like l g ps looks) ls [] [] (all_lines_drawn Plain plain_draws g [] (λ k. 0) ps tt letters) ∙ sym (made_there g ps goods))
+    ∙ (fill_same Plain (looks_of (sheet_at rs)) g (like l g ps looks) ls [] [] (all_lines_drawn Plain plain_draws g [] (λ k. 0) ps tt letters) ∙ sym (made_nameless stage_tokens nameless [] g ps goods))

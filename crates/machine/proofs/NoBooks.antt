@@ -7,7 +7,7 @@ use Rattle.wire.specs.Stage.{stage_calls}
 use Rattle.store.specs.Opened.{limits_of, rest_of}
 use Rattle.store.specs.Kept.{limits_at, is_open}
 use Rattle.store.specs.Changes.{put_edit, put_in_edit, cut_edit}
-use Rattle.machine.specs.Setter.{Wish, to_edit, to_show, to_find, to_count, unfit, wish_of, says_to, left_by_wish, says, next, NoBook}
+use Rattle.machine.specs.Setter.{Wish, to_edit, to_show, to_find, to_count, unfit, bulk_of, wish_of, says_to, left_by_wish, says, next, NoBook}
 
 module _ (m : Memory) (closed : is_open (length m.tokens) (rest_of m) ≡ false) where
   abbrev Refuses : Wish → Type 0
@@ -30,13 +30,13 @@ module _ (m : Memory) (closed : is_open (length m.tokens) (rest_of m) ≡ false)
       (left_by_wish (pick is_good (wish_of (rest_of m) c) unfit) m ≡ m) × (says_to (pick is_good (wish_of (rest_of m) c) unfit) m ≡ pick is_good (refused 3 2) (refused 2 0))
   unfolding stage_calls call_number
   by_call c false e = (refl, refl)
-  by_call (put k ts) true e = refuses_edit (put_edit k (all_written ts) (size ts) (rest_of m))
+  by_call (put k ts) true e = refuses_edit (put_edit k (all_written ts) (size ts) (bulk_of ts) (rest_of m))
   by_call (cut k) true e = refuses_edit (cut_edit k)
   by_call (define k ts) true e = let no : false ≡ true = e in cc
   by_call (show k r n) true e = refuses_show k r n
   by_call (where_is q) true e = refuses_find
   by_call how_many true e = refuses_count
-  by_call (put_in k ts) true e = refuses_edit (put_in_edit k (all_written ts) (size ts))
+  by_call (put_in k ts) true e = refuses_edit (put_in_edit k (all_written ts) (size ts) (bulk_of ts))
 
 pub no_books : NoBook
 unfolding says next

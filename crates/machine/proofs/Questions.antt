@@ -47,7 +47,7 @@ module _
     same_after_work =
         let bulk : get_or (rest_of (memory l g ps)) 3 0 ≡ l.bulk = (rest_tells l g ps).most_bulk in
         pick_true (is_open (length m.tokens) (rest_of m)) _ m opened
-        ∙ ap (λ (ws : List ℕ). record { tokens = m.tokens; words = ws; kept = m.kept }) (ap (λ b. cleared (9 * b) (replicate (words_asked l) 0)) bulk ∙ zeros_cleared (9 * l.bulk) (words_asked l) (omega arith))
+        ∙ ap (λ (ws : List ℕ). record { tokens = m.tokens; words = ws; kept = m.kept }) (ap (λ b. cleared (17 * b) (replicate (words_asked l) 0)) bulk ∙ zeros_cleared (17 * l.bulk) (words_asked l) (omega arith))
 
     -- a good question fits as the text does
     turned_so : (c : Call) → good_call l c ≡ true → changed (plain ps) c ≡ plain ps → turned l g (plain ps) c ≡ pick (eqb (turned_by g (plain ps) c) 0) 0 (turned_by g (plain ps) c)

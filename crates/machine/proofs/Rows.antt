@@ -1,10 +1,11 @@
--- The paragraphs as rows of numbers: their forms, and their entries in the table.
+-- The paragraphs as rows of numbers: their forms, and their entries in the table; and how much they are together.
 use Rattle.std.proofs.Common.{◌≡◌, ℕ, zero, suc, ◌+◌, ◌-◌, ◌*◌, ◌<◌, ◌≤◌, List, [], ◌∷◌, ◌++◌, length, get_or, take, sym, refl, ap, ◌∙◌, ap₂, zero-add, arith, take-suc}
 use Rattle.std.proofs.lemmas.List.{append_assoc, length-append, take_at, get_or_append_left, get_or-append_right}
 use Rattle.meaning.specs.Text.{Tokens, none, all_written}
 use Rattle.meaning.specs.Calls.{size, sizes}
 use Rattle.meaning.proofs.Forms.{length_all_written}
 use Rattle.store.specs.Kept.{table_sum}
+use Rattle.machine.specs.Setter.{bulk_of}
 use Rattle.store.proofs.Tables.{table_sum_take}
 
 abbrev pub forms : List Tokens → List ℕ
@@ -17,6 +18,10 @@ entry p = length (all_written p) ∷ (size p ∷ (0 ∷ (0 ∷ [])))
 abbrev pub entries : List Tokens → List ℕ
 entries [] = []
 entries (p ∷ ps) = entry p ++ entries ps
+
+abbrev pub bulks : List Tokens → ℕ
+bulks [] = 0
+bulks (p ∷ ps) = bulk_of p + bulks ps
 
 pub forms_append : (ps qs : List Tokens) → forms (ps ++ qs) ≡ forms ps ++ forms qs
 forms_append [] qs = refl

@@ -118,7 +118,7 @@ module _ (l : Limits) (g : Looks) (good : GoodLooks g) (small : GoodLimits l) wh
       goes : editing e (length m.tokens) (rest_of m) ≡ pick fit (Ok tt) (Err TooMuch)
       goes =
           let tells : Tells l g ts (rest_of m) = rest_tells l g ts in
-          let room : has_room e (rest_of m) ≡ fit = room_for l g ps olds qs news (rest_of m) tells ∙ fits_room l ps olds qs news one goods h.fit in
+          let room : has_room e (rest_of m) ≡ fit = room_for l g ps olds qs news (rest_of m) tells ∙ fits_room l ps olds qs news one h.fit in
           pick_true (is_open (length m.tokens) (rest_of m)) _ _ (memory_open l g ts (fitting l ts h.fit) good small)
           ∙ (pick_true (leb (e.at + e.gone) (get_or (rest_of m) 4 0)) _ _ (le-leb _ _ (omega (arith, tells.paragraphs, length-append ps (olds ++ qs), length-append olds qs)))
           ∙ ap (λ b. pick b (Ok tt) (Err TooMuch)) room)

@@ -1,11 +1,12 @@
 -- The machine: what opening and calls leave in the lent memory, and what is answered.
 --   Wish       what a call asks of the book: an edit, a question, or nothing that the stage can do
+--   bulk_of    how much a paragraph of these tokens is: the stage has no definitions
 --   shown_in   rows of a page, as the book in memory has them
 --   setter     the machine that the main promise is about
 --   NoBook     memory that is no open book refuses every call, and stays as it was
-use Rattle.std.specs.Prelude.{◌≡◌, ℕ, ◌+◌, ◌*◌, false, List, length, take, drop, is_ok, Ok, Err, Result, nat_le, nat_lt, slice_index}
-use Rattle.meaning.specs.Text.{pick, all_written}
-use Rattle.meaning.specs.Calls.{Call, put, cut, define, show, where_is, how_many, put_in, Answer, done, refused, rows, numbers, size, good_call, page_rows}
+use Rattle.std.specs.Prelude.{◌≡◌, ℕ, ◌+◌, ◌*◌, false, List, [], length, take, drop, is_ok, Ok, Err, Result, nat_le, nat_lt, slice_index}
+use Rattle.meaning.specs.Text.{pick, Tokens, atoms, all_written}
+use Rattle.meaning.specs.Calls.{Call, put, cut, define, show, where_is, how_many, put_in, Answer, done, refused, rows, numbers, size, bulk, good_call, page_rows}
 use Rattle.meaning.specs.Promise.{Memory, Setter}
 use Rattle.wire.specs.Refusals.{refusal_number, refusal_place}
 use Rattle.wire.specs.declared.refusal.Refusal.{Refusal}
@@ -23,15 +24,19 @@ pub data Wish : Type 0 where
   to_count : Wish  -- how many pages there are
   unfit : Wish
 
+-- with page numbers of eight digits, as a text's fit has it
+abbrev pub bulk_of : Tokens → ℕ
+bulk_of ts = bulk (atoms [] (λ l. 99999999) ts)
+
 -- the call as what it asks for, where it is good
 abbrev pub wish_of : List ℕ → Call → Wish
-wish_of rs (put k ts) = to_edit (put_edit k (all_written ts) (size ts) rs)
+wish_of rs (put k ts) = to_edit (put_edit k (all_written ts) (size ts) (bulk_of ts) rs)
 wish_of rs (cut k) = to_edit (cut_edit k)
 wish_of rs (define k ts) = unfit
 wish_of rs (show k r n) = to_show k r n
 wish_of rs (where_is q) = to_find
 wish_of rs how_many = to_count
-wish_of rs (put_in k ts) = to_edit (put_in_edit k (all_written ts) (size ts))
+wish_of rs (put_in k ts) = to_edit (put_in_edit k (all_written ts) (size ts) (bulk_of ts))
 
 -- a call that the stage can't do, or whose tokens or numbers are not good, asks for nothing
 abbrev pub wish : List ℕ → Call → Wish
@@ -63,7 +68,7 @@ says_to to_count m = if_open m (numbers (length (pages_in m.tokens (rest_of m)))
 -- when pages were made, what a paragraph can need of the working part is 0
 abbrev pub worked_on : Memory → Memory
 worked_on m =
-    pick (is_open (length m.tokens) (rest_of m)) (record { tokens = m.tokens; words = cleared (9 * slice_index (rest_of m) 3) m.words; kept = m.kept }) m
+    pick (is_open (length m.tokens) (rest_of m)) (record { tokens = m.tokens; words = cleared (17 * slice_index (rest_of m) 3) m.words; kept = m.kept }) m
 
 abbrev pub left_by_wish : Wish → Memory → Memory
 left_by_wish unfit m = m

@@ -2,17 +2,17 @@
 #![tactic(auto)]
 
 ghost use Rattle.meaning.specs.Promise.{Right, RefusalKeeps, EnoughMemory};
-ghost use Rattle.meaning.specs.Calls.{thin_tokens, thin_calls};
+ghost use Rattle.wire.specs.Stage.{stage_tokens, stage_calls};
 ghost use Rattle.machine.specs.Setter.{setter, NoBook};
 
 // For every list of calls, each answer is that of the text as the calls left it, set from nothing.
 pub fn right()
-    ensures { Right thin_tokens thin_calls setter }
+    ensures { Right stage_tokens stage_calls setter }
 {}
 
 // A call that is turned away leaves memory as it was.
 pub fn refusal_keeps()
-    ensures { RefusalKeeps thin_tokens thin_calls setter }
+    ensures { RefusalKeeps stage_tokens stage_calls setter }
 {}
 
 // Memory stays as large as the limits ask for, and holds bytes and numbers of 64 bits.

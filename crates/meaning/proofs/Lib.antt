@@ -1,6 +1,7 @@
 pub mod Picks
 pub mod Below
 pub mod Forms
+pub mod Bulks
 pub mod Widths
 pub mod Best
 pub mod BestOfAll
@@ -16,4 +17,5 @@ pub mod Drawn
 pub mod Tables
 pub mod Turned
 pub mod Reached
+pub mod Nameless
 pub mod Worked

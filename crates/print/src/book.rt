@@ -1,5 +1,5 @@
 // A book in memory from the heap, and what is asked of it.
-use session::{Asked, Looks, Opening, ROOM, call, open};
+use session::{Asked, Looks, Opening, PageShape, ROOM, call, open, page_shape};
 use std::alloc::{AllocError, Global};
 use std::fmt;
 use text::{Heard, Refused, Rows, hear};
@@ -76,6 +76,11 @@ impl Book {
             Heard::Numbers(pages, rest) => Ok((pages, rest != 0)),
             _ => Err(Denied::NoAnswer),
         }
+    }
+
+    // How many lines and rows a page has, from 0 on. No call asks for that.
+    pub(crate) fn shape(&mut self, page: u32) -> Result<PageShape, Denied> {
+        Ok(page_shape(&self.tokens, &mut self.rest, page)?)
     }
 
     // Of a page, from 0 on, so many rows from one on.

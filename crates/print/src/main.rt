@@ -44,7 +44,8 @@ An example:
 
     1. Bills shall be printed.
 
-Each page is printed as a line with its number and then its rows; four blank dots are a space.
+Each page is printed as a line with its number and then its rows: the lines first, blank rows until
+the page is full, and at the foot the notes' lines. Four blank dots are a space.
 A last line says `not at rest` where page numbers in the text could not be made right.
 What can't be read, or is refused, ends the program with status 1, and its line is told on standard error.";
 

@@ -1,9 +1,10 @@
 // The pages of a book, printed one after another.
 use crate::book::{Book, Denied};
 use crate::row::Row;
+use session::PageShape;
 use std::io;
-use text::{EachRow, Refused, Rows};
-use wire::{LETTERS, Refusal};
+use text::{EachRow, Rows};
+use wire::LETTERS;
 
 // The most rows that a call may ask for.
 const ROWS_AT_ONCE: u16 = 8;
@@ -28,32 +29,41 @@ fn print_blanks(rt: &HostRuntime, count: u16) -> io::Result<()> {
     Ok(())
 }
 
-// So many rows of a page from one on, blank where it has no more: it does not tell how many it has, but refuses rows beyond.
-fn print_part(rt: &HostRuntime, book: &mut Book, page: u32, row: u16, most: u16) -> io::Result<()> {
+// The rows of a page from one on and before another one.
+fn print_part(rt: &HostRuntime, book: &mut Book, page: u32, from: u16, to: u16) -> io::Result<()> {
     let widths = book.looks.widths;
-    let no_rows = Refused::from(Refusal::NoRows(row.into()));
-    for count in (1..=most).rev() {
+    for row in (from..to).step_by(ROWS_AT_ONCE.into()) {
+        let count = to.saturating_sub(row).min(ROWS_AT_ONCE);
         match book.show(page, row, count) {
-            Ok(rows) => {
-                print_rows(rt, rows, &widths)?;
-                return print_blanks(rt, most.saturating_sub(count));
-            }
-            Err(Denied::Refused(refused)) if refused == no_rows => {}
+            Ok(rows) => print_rows(rt, rows, &widths)?,
             Err(denied) => return tell(rt, denied),
         }
     }
-    print_blanks(rt, most)
+    Ok(())
+}
+
+// As a call has it. The most rows are those of one line with all notes of its paragraph, some thousands.
+fn row_number(count: usize) -> u16 {
+    u16::try_from(count).unwrap_or(u16::MAX)
+}
+
+// The lines first, blank rows until the page is full, and at the foot the notes' lines.
+fn print_shape(rt: &HostRuntime, book: &mut Book, page: u32, shape: PageShape) -> io::Result<()> {
+    let lines = row_number(shape.lines);
+    let rows = row_number(shape.rows);
+    let room = row_number(book.looks.rows as usize);
+    print_part(rt, book, page, 0, lines)?;
+    print_blanks(rt, room.saturating_sub(rows))?;
+    print_part(rt, book, page, lines, rows)
 }
 
 fn print_page(rt: &HostRuntime, book: &mut Book, page: u32) -> io::Result<()> {
     let number = page.saturating_add(1);
     println!(rt; "page {number}")?;
-    let rows = u16::try_from(book.looks.rows).unwrap_or(u16::MAX);
-    for row in (0..rows).step_by(ROWS_AT_ONCE.into()) {
-        let most = rows.saturating_sub(row).min(ROWS_AT_ONCE);
-        print_part(rt, book, page, row, most)?;
+    match book.shape(page) {
+        Ok(shape) => print_shape(rt, book, page, shape),
+        Err(denied) => tell(rt, denied),
     }
-    Ok(())
 }
 
 pub(crate) fn print_pages(rt: &HostRuntime, book: &mut Book) -> io::Result<()> {

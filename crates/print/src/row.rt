@@ -40,7 +40,7 @@ pub(crate) struct Row<'a> {
 impl Row<'_> {
     // Where a letter ends.
     fn end(&self, letter: Letter) -> u32 {
-        let width = letter_width(self.widths, u64::from(letter.what));
+        let width = letter_width(self.widths, letter.what);
         letter.at.saturating_add(width as u32)
     }
 }

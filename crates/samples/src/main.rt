@@ -39,7 +39,7 @@ impl From<AllocError> for Failure {
     }
 }
 
-// A text, and what its pages look like.
+// A text, and what its pages look like. A note stands in braces.
 #[derive(Clone, Copy)]
 struct Sample {
     paragraphs: &'static [&'static str],
@@ -47,7 +47,7 @@ struct Sample {
     rows: u32,
 }
 
-const SAMPLES: [Sample; 8] = [
+const SAMPLES: [Sample; 9] = [
     Sample {
         paragraphs: &["ab cd ef"],
         width: 30,
@@ -92,6 +92,12 @@ const SAMPLES: [Sample; 8] = [
         width: 60,
         rows: 4,
     },
+    // A note goes to the foot of the page.
+    Sample {
+        paragraphs: &["a{x y} b c"],
+        width: 40,
+        rows: 2,
+    },
 ];
 
 // A table of the letters from 32 on, the space. The program speed has the same five lines: a library for them would have more, and `text` would read them
@@ -132,17 +138,32 @@ impl fmt::Display for Sample {
     }
 }
 
-// The tokens of a text, one for each of its letters and spaces.
+fn piece_of(letter: u8) -> Piece {
+    match letter {
+        b' ' => Piece::Space,
+        b'{' => Piece::Note,
+        b'}' => Piece::Close,
+        letter => Piece::Letter(letter),
+    }
+}
+
+// The tokens of a text.
 fn tokens_of(heap: Global, text: &str) -> Result<Vec<u8>, AllocError> {
     let mut tokens = Vec::new(heap);
     for letter in text.bytes() {
-        let piece = match letter {
-            b' ' => Piece::Space,
-            letter => Piece::Letter(letter),
-        };
-        piece.write(&mut tokens)?;
+        piece_of(letter).write(&mut tokens)?;
     }
     Ok(tokens)
+}
+
+// What a text counts against the limits: in tokens a note is two, and in a paragraph one, besides what is in it.
+fn content_of<'a>(text: &str, tokens: &'a [u8]) -> Content<'a> {
+    let closed = text.bytes().filter(|b| *b == b'}').count();
+    Content {
+        bytes: tokens,
+        size: text.len(),
+        bulk: text.len().saturating_sub(closed),
+    }
 }
 
 // A book in memory, and room for a row. The program answer has the like: a library would need contracts on vectors for these few lines.
@@ -195,11 +216,7 @@ fn book_of(heap: Global, sample: &Sample) -> Result<Book, Failure> {
     book.open(&opening)?;
     for (k, text) in (0..u16::MAX).zip(sample.paragraphs) {
         let tokens = tokens_of(heap, text)?;
-        let content = Content {
-            bytes: &tokens,
-            size: text.len(),
-        };
-        book.put(k, content)?;
+        book.put(k, content_of(text, &tokens))?;
     }
     Ok(book)
 }

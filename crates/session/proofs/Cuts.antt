@@ -105,8 +105,8 @@ module _ (ts rs : List ℕ) (open_book : is_open (length ts) rs ≡ true) where
   module _ (e : Edit) (there : e.at + e.gone ≤ get_or rs 4 0) (room : has_room e rs ≡ true) where
     roomy : (paragraphs_after e rs ≤ get_or rs 0 0) × (bytes_after e rs ≤ 2 * get_or rs 1 0)
     roomy =
-        let a = and_parts (leb e.size (get_or rs 3 0) && leb (paragraphs_after e rs) (get_or rs 0 0)) _ room in
-        (leb-true _ _ (and_parts (leb e.size (get_or rs 3 0)) _ a.0).1, leb-true _ _ (and_parts (leb (size_after e rs) (get_or rs 1 0)) _ a.1).1)
+        let a = and_parts (leb e.bulk (get_or rs 3 0) && leb (paragraphs_after e rs) (get_or rs 0 0)) _ room in
+        (leb-true _ _ (and_parts (leb e.bulk (get_or rs 3 0)) _ a.0).1, leb-true _ _ (and_parts (leb (size_after e rs) (get_or rs 1 0)) _ a.1).1)
 
     edited_cut : edited_tokens e (take (tokens_asked (limits_in rs)) ts) (memory_in ts rs).kept ≡ edited_tokens e (take (tokens_asked (limits_in rs)) ts) rs
     unfolding edited_tokens

@@ -56,13 +56,13 @@ module _ (ts rs : List ℕ) (o : is_open (length ts) rs ≡ true) where
 
   -- what the working part of the slice is when pages were made
   worked_words : List ℕ
-  worked_words = cleared (9 * get_or rs 3 0) (memory_in ts rs).words
+  worked_words = cleared (17 * get_or rs 3 0) (memory_in ts rs).words
 
   worked_memory : worked_on (memory_in ts rs) ≡ record { tokens = (memory_in ts rs).tokens; words = worked_words; kept = (memory_in ts rs).kept }
   unfolding worked_words
   worked_memory =
       pick_true (is_open (length (memory_in ts rs).tokens) (rest_of (memory_in ts rs))) _ (memory_in ts rs) (open_cut ts rs o)
-      ∙ ap (λ n. record { tokens = (memory_in ts rs).tokens; words = cleared (9 * n) (memory_in ts rs).words; kept = (memory_in ts rs).kept }) (at_whole ts rs o 3 (lit< tt))
+      ∙ ap (λ n. record { tokens = (memory_in ts rs).tokens; words = cleared (17 * n) (memory_in ts rs).words; kept = (memory_in ts rs).kept }) (at_whole ts rs o 3 (lit< tt))
 
   worked_rest : over (rest_of (worked_on (memory_in ts rs))) rs ≡ worked rs
   unfolding worked_words
@@ -74,13 +74,13 @@ module _ (ts rs : List ℕ) (o : is_open (length ts) rs ≡ true) where
       let behind : w ≤ length (drop k rs) = omega (arith, length-drop k rs) in
       let kept_long : length (take k rs) ≡ k = length-take-le k rs (omega arith) in
       let words_long : length (take w (drop k rs)) ≡ w = length-take-le w (drop k rs) behind in
-      let small : 9 * get_or rs 3 0 ≤ w = omega arith in
-      let cleared_long : length worked_words ≡ w = omega (arith, length-append (replicate (9 * get_or rs 3 0) 0) (drop (9 * get_or rs 3 0) (take w (drop k rs))), length-replicate {A = ℕ} (9 * get_or rs 3 0) 0, length-drop (9 * get_or rs 3 0) (take w (drop k rs)), words_long) in
+      let small : 17 * get_or rs 3 0 ≤ w = omega arith in
+      let cleared_long : length worked_words ≡ w = omega (arith, length-append (replicate (17 * get_or rs 3 0) 0) (drop (17 * get_or rs 3 0) (take w (drop k rs))), length-replicate {A = ℕ} (17 * get_or rs 3 0) 0, length-drop (17 * get_or rs 3 0) (take w (drop k rs)), words_long) in
       let all_long : length (take k rs ++ worked_words) ≡ k + w = length-append (take k rs) worked_words ∙ ap₂ ◌+◌ kept_long cleared_long in
       ap (λ (n : Memory). over (rest_of n) rs) worked_memory
       ∙ (ap (λ n. (take k rs ++ worked_words) ++ drop n rs) all_long
       ∙ (append_assoc (take k rs) worked_words (drop (k + w) rs)
-      ∙ ap (λ (xs : List ℕ). take k rs ++ xs) (ap (λ (xs : List ℕ). worked_words ++ xs) (sym (drop-drop w k rs)) ∙ cleared_front (9 * get_or rs 3 0) w (drop k rs) small behind)))
+      ∙ ap (λ (xs : List ℕ). take k rs ++ xs) (ap (λ (xs : List ℕ). worked_words ++ xs) (sym (drop-drop w k rs)) ∙ cleared_front (17 * get_or rs 3 0) w (drop k rs) small behind)))
 
   worked_tokens : over (worked_on (memory_in ts rs)).tokens ts ≡ ts
   worked_tokens = ap (λ (n : Memory). over n.tokens ts) worked_memory ∙ same_tokens ts rs

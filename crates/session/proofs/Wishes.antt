@@ -1,15 +1,13 @@
 -- Each call as what it asks for, or as nothing, and what comes of it.
-use Rattle.std.proofs.Common.{◌≡◌, ℕ, ◌<◌, ◌≤◌, Bool, true, false, ltb, List, length, Some, None, Ok, Err, Result, refl, ap, ap₂, sym, ◌∙◌, arith, lit<, Bor}
+use Rattle.std.proofs.Common.{◌≡◌, ℕ, ◌<◌, ◌≤◌, Bool, true, false, ltb, List, length, Ok, Err, Result, refl, ap, sym, ◌∙◌, arith, lit<, Bor}
 use Rattle.std.specs.Result.{IsErrAnd}
 use Rattle.std.proofs.lemmas.Bool.{le-leb, lt-leb, lt-ltb, le-ltb}
 use Rattle.std.proofs.lemmas.Result.{err_from_is_err_and}
 use Rattle.meaning.specs.Text.{pick, Tokens, all_written}
 use Rattle.meaning.specs.Calls
 use Rattle.meaning.specs.Calls.{good, size}
-use Rattle.meaning.proofs.Picks.{some_picked, none_picked}
 use Rattle.wire.specs.Answers.{answer_of, answer_form, outcome}
 use Rattle.wire.specs.Bytes.{over, answer_bytes, tokens_of}
-use Rattle.wire.specs.Fit.{Measures}
 use Rattle.wire.specs.Reads.{Whole}
 use Rattle.wire.specs.Stage.{stage_tokens, stage_calls}
 use Rattle.wire.specs.declared.answer.Answer.{Answer}
@@ -23,50 +21,50 @@ use Rattle.store.specs.Edits.{edit_by}
 use Rattle.store.specs.declared.changes.Content.{Content}
 use Rattle.store.specs.declared.changes.Edit.{Edit}
 use Rattle.store.specs.declared.changes.Edit.TheVariants as Edits
-use Rattle.machine.specs.Setter.{to_edit, to_show, to_find, unfit, wish, told_of}
-use Rattle.session.specs.Answering.{memory_in, Wished, said, Performs}
+use Rattle.machine.specs.Setter.{to_edit, to_show, to_find, unfit, bulk_of, wish, told_of}
+use Rattle.session.specs.Answering.{memory_in, Measured, IsUnfit, Wished, said, Performs}
 use Rattle.session.specs.declared.answering.Wish.{Wish}
 use Rattle.session.specs.declared.answering.Wish.TheVariants as Wishes
 use Rattle.session.proofs.Cuts.{at_whole}
 use Rattle.session.proofs.Performed.{Makes, refused_unfit, performed}
 
 -- a call with tokens asks for a change, if they are good
-pub record Asks (make : Tokens → Calls.Call) (change : Content → Edit) (by : List ℕ → ℕ → List ℕ → Changes.Edit) : Type 0 where
-  pub asked : (ts : Tokens) (b : Bool) → good stage_tokens ts 16 ≡ b → (xs : List ℕ) → wish xs (make ts) ≡ pick b (to_edit (by (all_written ts) (size ts) xs)) unfit
-  pub same : (new : Content) (xs : List ℕ) → edit_by (change new) xs ≡ by new.bytes.now new.size xs
+pub record Asks (make : Tokens → Calls.Call) (change : Content → Edit) (by : List ℕ → ℕ → ℕ → List ℕ → Changes.Edit) : Type 0 where
+  pub asked : (ts : Tokens) (b : Bool) → good stage_tokens ts 16 ≡ b → (xs : List ℕ) → wish xs (make ts) ≡ pick b (to_edit (by (all_written ts) (size ts) (bulk_of ts) xs)) unfit
+  pub same : (new : Content) (xs : List ℕ) → edit_by (change new) xs ≡ by new.bytes.now new.size new.bulk xs
 
 pub put_asks : (k : ℕ) → Asks (Calls.put k) (Edits.Put k) (put_edit k)
 unfolding stage_calls Calls.call_number Calls.good_fields
 put_asks k =
     record {
-      asked = λ ts b e xs. ap (λ x. pick x (to_edit (put_edit k (all_written ts) (size ts) xs)) unfit) e;
+      asked = λ ts b e xs. ap (λ x. pick x (to_edit (put_edit k (all_written ts) (size ts) (bulk_of ts) xs)) unfit) e;
       same = λ new xs. refl;
     }
 
-pub put_in_asks : (k : ℕ) → Asks (Calls.put_in k) (Edits.PutIn k) (λ bs n xs. put_in_edit k bs n)
+pub put_in_asks : (k : ℕ) → Asks (Calls.put_in k) (Edits.PutIn k) (λ bs n b xs. put_in_edit k bs n b)
 unfolding stage_calls Calls.call_number Calls.good_fields
 put_in_asks k =
     record {
-      asked = λ ts b e xs. ap (λ x. pick x (to_edit (put_in_edit k (all_written ts) (size ts))) unfit) e;
+      asked = λ ts b e xs. ap (λ x. pick x (to_edit (put_in_edit k (all_written ts) (size ts) (bulk_of ts))) unfit) e;
       same = λ new xs. refl;
     }
 
-module _ {make : Tokens → Calls.Call} {change : Content → Edit} {by : List ℕ → ℕ → List ℕ → Changes.Edit} (asks : Asks make change by) (part : Bor (List ℕ)) where
-  pub good_wished : (new : Content) → Whole part → (new.bytes.now ≡ part.now) × Measures part.now 16 (Some new.size) → Wished (make (tokens_of part.now)) (Ok (Wishes.Edit (change new)))
+module _ {make : Tokens → Calls.Call} {change : Content → Edit} {by : List ℕ → ℕ → ℕ → List ℕ → Changes.Edit} (asks : Asks make change by) (part : Bor (List ℕ)) where
+  pub good_wished : (new : Content) → Whole part → Measured part.now new → Wished (make (tokens_of part.now)) (Ok (Wishes.Edit (change new)))
   good_wished new whole held =
-      let fits = some_picked (good stage_tokens (tokens_of part.now) 16) new.size (size (tokens_of part.now)) held.1.value in
-      let same_bytes : all_written (tokens_of part.now) ≡ new.bytes.now = sym (held.0 ∙ whole) in
+      let same_bytes : all_written (tokens_of part.now) ≡ new.bytes.now = sym (held.bytes ∙ whole) in
       record {
-        value = λ xs. asks.asked (tokens_of part.now) true fits.0 xs ∙ ap to_edit (ap₂ (λ bs n. by bs n xs) same_bytes (sym fits.1) ∙ sym (asks.same new xs));
+        value = λ xs.
+            asks.asked (tokens_of part.now) true held.fit xs
+            ∙ ap to_edit (rw (same_bytes, ← held.size, ← held.bulk) refl ∙ sym (asks.same new xs));
         few = tt;
         refusal = tt;
       }
 
-  pub unfit_wished : (why : Refusal) (r : Result Wish Refusal) → (why ≡ Unfit) × Measures part.now 16 None → IsErrAnd r (λ e. e ≡ why) → Wished (make (tokens_of part.now)) r
+  pub unfit_wished : (why : Refusal) (r : Result Wish Refusal) → IsUnfit part.now why → IsErrAnd r (λ e. e ≡ why) → Wished (make (tokens_of part.now)) r
   unfit_wished why r held so =
       let p = err_from_is_err_and r so in
-      let not_good = none_picked (good stage_tokens (tokens_of part.now) 16) (size (tokens_of part.now)) held.1.value in
-      rw (p.1, p.2) (record { value = asks.asked (tokens_of part.now) false not_good; few = tt; refusal = held.0 })
+      rw (p.1, p.2) (record { value = asks.asked (tokens_of part.now) false held.fit; few = tt; refusal = held.told })
 
 pub cut_wished : (k : ℕ) → Wished (Calls.cut k) (Ok (Wishes.Edit (Edits.Cut k)))
 unfolding stage_calls Calls.call_number Calls.good_fields
@@ -114,7 +112,7 @@ few_come (Edits.Cut k) rs = omega arith
 
 module _ (ts rs : List ℕ) (c : Calls.Call) where
   same_edit : (edit : Edit) → is_open (length ts) rs ≡ true → edit_by edit (rest_of (memory_in ts rs)) ≡ edit_by edit rs
-  same_edit (Edits.Put k new) o = ap (λ x. record { at = k; gone = pick (ltb k x) 1 0; come = 1; bytes = new.bytes.now; size = new.size }) (at_whole ts rs o 4 (lit< tt))
+  same_edit (Edits.Put k new) o = ap (λ x. record { at = k; gone = pick (ltb k x) 1 0; come = 1; bytes = new.bytes.now; size = new.size; bulk = new.bulk }) (at_whole ts rs o 4 (lit< tt))
   same_edit (Edits.PutIn k new) o = refl
   same_edit (Edits.Cut k) o = refl
 

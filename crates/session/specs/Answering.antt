@@ -1,22 +1,26 @@
 -- What a call answers and leaves, for all lent slices and all bytes.
 --   memory_in   the lent slices, cut to what the header asks for
+--   Measured    good tokens with what they count
+--   IsUnfit     the refusal of tokens that are not good
 --   Wished      what a call asks for, or that it asks for nothing
 --   said        what a call is answered, by the machine where memory is an open book
 --   left        what it leaves in a slice
 --   Told        an answer that was written, or a refusal that is still to be written
 --   Performs    what carrying out a call gives, and leaves in each slice
 --   Answers     what `call` gives back, and leaves in each slice
-use Rattle.std.specs.Prelude.{◌≡◌, ℕ, ◌≤◌, min, Bool, List, [], length, take, drop, Some, None, Ok, Err, Option, Result, IfSome, IfOk, IfErr, nat_le}
+use Rattle.std.specs.Prelude.{◌≡◌, ℕ, ◌≤◌, min, Bool, true, false, List, [], length, take, drop, Some, None, Ok, Err, Option, Result, IfSome, IfOk, IfErr, nat_le}
 use Rattle.meaning.specs.Text.{pick}
-use Rattle.meaning.specs.Calls.{Call, Answer, refused, Limits}
+use Rattle.meaning.specs.Calls.{Call, Answer, refused, Limits, size, good}
 use Rattle.meaning.specs.Promise.{Memory}
-use Rattle.wire.specs.Bytes.{over, answer_bytes, Reading, is_call, stops, reading}
+use Rattle.wire.specs.Bytes.{over, answer_bytes, Reading, is_call, stops, tokens_of, reading}
+use Rattle.wire.specs.Stage.{stage_tokens}
 use Rattle.wire.specs.declared.refusal.Refusal.{Refusal}
 use Rattle.wire.specs.declared.refusal.Refusal.TheVariants.{Unfit}
 use Rattle.store.specs.Opened.{limits_of, tokens_asked, kept_asked, words_asked, rest_of}
 use Rattle.store.specs.Kept.{limits_at, is_open}
 use Rattle.store.specs.Edits.{edit_by}
-use Rattle.machine.specs.Setter.{to_edit, to_show, to_find, to_count, unfit, wish, told_of, setter}
+use Rattle.store.specs.declared.changes.Content.{Content}
+use Rattle.machine.specs.Setter.{to_edit, to_show, to_find, to_count, unfit, bulk_of, wish, told_of, setter}
 use Rattle.machine.specs.Setter
 use Rattle.session.specs.declared.answering.Wish.{Wish}
 use Rattle.session.specs.declared.answering.Wish.TheVariants.{Edit, Show, Find, Count}
@@ -31,6 +35,16 @@ memory_in ts rs =
       words = take (words_asked (limits_in rs)) (drop (kept_asked (limits_in rs)) rs);
       kept = take (kept_asked (limits_in rs)) rs;
     }
+
+pub record Measured (bs : List ℕ) (new : Content) : Type 0 where
+  pub bytes : new.bytes.now ≡ bs
+  pub fit : good stage_tokens (tokens_of bs) 16 ≡ true
+  pub size : new.size ≡ size (tokens_of bs)
+  pub bulk : new.bulk ≡ bulk_of (tokens_of bs)
+
+pub record IsUnfit (bs : List ℕ) (why : Refusal) : Type 0 where
+  pub fit : good stage_tokens (tokens_of bs) 16 ≡ false
+  pub told : why ≡ Unfit
 
 -- as the machine has it, whatever the numbers are
 abbrev pub wish_by : Wish → List ℕ → Setter.Wish

@@ -1,12 +1,11 @@
 // A call is read, looked at by the list of refusals, carried out, and answered.
-ghost use Rattle.std.specs.Prelude.{◌≡◌, ◌≤◌, Some, None, MatchResult, length};
-ghost use Rattle.wire.specs.Fit.{Measures};
+ghost use Rattle.std.specs.Prelude.{◌≡◌, ◌≤◌, MatchResult, length};
 ghost use Rattle.wire.specs.Reads.{call_of, WholeTokens};
-ghost use Rattle.session.specs.Answering.{Wished, Performs, Replies, Answers};
+ghost use Rattle.session.specs.Answering.{Measured, IsUnfit, Wished, Performs, Replies, Answers};
 
 use layout::{Wanted, count_pages, show_rows};
 use store::{Content, Edit, change, look};
-use wire::{Answer, Call, Refusal, read_call, tokens_size, write_answer};
+use wire::{Answer, Call, Measure, Refusal, read_call, tokens_measure, write_answer};
 
 // What the longest answer takes: 8 rows of 4,096 letters, each with its place.
 pub const ROOM: usize = 163_858;
@@ -32,10 +31,10 @@ enum Wish<'a> {
 
 // Tokens that the stage can do, with what they count.
 fn content(bytes: &[u8]) -> Result<Content<'_>, Refusal>
-    ensures { MatchResult result (λ new. (new.bytes.now ≡ bytes.now) × Measures bytes.now 16 (Some new.size)) (λ why. (why ≡ Refusal.Unfit) × Measures bytes.now 16 None) }
+    ensures { MatchResult result (Measured bytes.now) (IsUnfit bytes.now) }
 {
-    let size = tokens_size(bytes, DEPTH).ok_or(Refusal::Unfit)?;
-    Ok(Content { bytes, size })
+    let Measure { size, bulk, .. } = tokens_measure(bytes, DEPTH).ok_or(Refusal::Unfit)?;
+    Ok(Content { bytes, size, bulk })
 }
 
 // What is asked for, if the stage can do it and its numbers are in range.

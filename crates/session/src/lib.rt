@@ -6,5 +6,6 @@ mod answering;
 mod promise;
 
 pub use answering::{ROOM, call};
+pub use layout::{PageShape, page_shape};
 pub use promise::session_is_right;
 pub use store::{Asked, Limits, Looks, Opening, open};

@@ -1,6 +1,7 @@
-// How many lines a paragraph of letters and spaces has.
+// How many lines a paragraph has.
 ghost use Rattle.std.specs.Prelude.{◌≡◌, ◌*◌, ◌≤◌, length, take, replicate};
-ghost use Rattle.words.specs.Atoms.{plain_within, cleared};
+ghost use Rattle.words.specs.Atoms.{cleared};
+ghost use Rattle.words.specs.Reads.{found_within};
 ghost use Rattle.words.specs.Slots.{wide_by};
 ghost use Rattle.speed.specs.Counts.{lines_in, used};
 
@@ -8,7 +9,7 @@ use linebreak::{Lines, SLOT};
 use wire::LETTERS;
 use words::break_into_lines;
 
-// None where there is no room for all atoms, or a token is no letter and no space. What was used of both rows is 0 again.
+// None where there is no room for all atoms, or the stage has no atom for a token. What was used of both rows is 0 again.
 pub fn count_lines(
     tokens: &[u8],
     atoms: &mut [u64],
@@ -17,14 +18,14 @@ pub fn count_lines(
     width: u64,
 ) -> Option<usize>
     requires { (length atoms.old ≤ 4096) × ((8 * length atoms.old ≤ length slots.old) × (width ≤ 1000)) }
-    ensures value { result ≡ lines_in (wide_by widths.now) width (plain_within (length atoms.old) tokens.now) }
+    ensures value { result ≡ lines_in (wide_by widths.now) width (found_within (length atoms.old) tokens.now) }
     ensures atoms { atoms.new ≡ replicate (length atoms.old) 0 }
-    ensures slots { slots.new ≡ cleared (used (plain_within (length atoms.old) tokens.now)) slots.old }
+    ensures slots { slots.new ≡ cleared (used (found_within (length atoms.old) tokens.now)) slots.old }
     ensures same { take (8 * length atoms.old) slots.old ≡ replicate (8 * length atoms.old) 0 → slots.new ≡ slots.old }
 {
-    let words = break_into_lines(tokens, atoms, slots, widths, width)?;
+    let taken = break_into_lines(tokens, atoms, slots, widths, width)?;
     atoms.fill(0);
-    let used = &mut slots[..SLOT * words];
+    let used = &mut slots[..SLOT * taken.words];
     let lines = Lines::of(used).count();
     used.fill(0);
     Some(lines)

@@ -116,7 +116,7 @@ within_parts n l e =
 -- an edit that was made
 module _ (ts rs ts' rs' : List ℕ) (e : Edit) (open_book : is_open (length ts) rs ≡ true) where
   pub made_at :
-      e.at + e.gone ≤ get_or rs 4 0 → e.size ≤ get_or rs 3 0 → paragraphs_after e rs ≤ get_or rs 0 0 → size_after e rs ≤ get_or rs 1 0 → bytes_after e rs ≤ 2 * get_or rs 1 0 →
+      e.at + e.gone ≤ get_or rs 4 0 → e.bulk ≤ get_or rs 3 0 → paragraphs_after e rs ≤ get_or rs 0 0 → size_after e rs ≤ get_or rs 1 0 → bytes_after e rs ≤ 2 * get_or rs 1 0 →
       ts' ≡ edited_tokens e ts rs → rs' ≡ edited_rest e rs → Changes e ts rs ts' rs' (Ok tt)
   made_at there small few size bytes t r =
       let room : has_room e rs ≡ true = and_from _ _ (and_from _ _ (le-leb _ _ small) (le-leb _ _ few)) (and_from _ _ (le-leb _ _ size) (le-leb _ _ bytes)) in

@@ -16,13 +16,14 @@ use Rattle.store.specs.Kept.{table_sum, is_open}
 unfoldable pub spliced : List ℕ → ℕ → ℕ → ℕ → List ℕ → List ℕ
 spliced xs a b t new = take a xs ++ (new ++ (take t (drop (a + b) xs) ++ (replicate (b - length new) 0 ++ drop (a + max b (length new) + t) xs)))
 
--- before paragraph `at`, so many go and so many come, none or one of each
+-- before paragraph `at`, so many go and so many come, none or one of each; what comes has a size as tokens, and is so much as a paragraph
 pub record Edit : Type 0 where
   pub at : ℕ
   pub gone : ℕ
   pub come : ℕ
   pub bytes : List ℕ
   pub size : ℕ
+  pub bulk : ℕ
 
 -- the bytes, and the size, of the paragraphs that go
 abbrev pub bytes_gone : Edit → List ℕ → ℕ
@@ -55,16 +56,16 @@ edited_rest e rs =
 -- paragraphs, tokens in all, what one paragraph may be, and the bytes' half of memory
 abbrev pub has_room : Edit → List ℕ → Bool
 has_room e rs =
-    (nat_le e.size (slice_index rs 3) && nat_le (paragraphs_after e rs) (slice_index rs 0)) && (nat_le (size_after e rs) (slice_index rs 1) && nat_le (bytes_after e rs) (2 * slice_index rs 1))
+    (nat_le e.bulk (slice_index rs 3) && nat_le (paragraphs_after e rs) (slice_index rs 0)) && (nat_le (size_after e rs) (slice_index rs 1) && nat_le (bytes_after e rs) (2 * slice_index rs 1))
 
-abbrev pub put_edit : ℕ → List ℕ → ℕ → List ℕ → Edit
-put_edit k bs n rs = record { at = k; gone = pick (nat_lt k (slice_index rs 4)) 1 0; come = 1; bytes = bs; size = n }
+abbrev pub put_edit : ℕ → List ℕ → ℕ → ℕ → List ℕ → Edit
+put_edit k bs n b rs = record { at = k; gone = pick (nat_lt k (slice_index rs 4)) 1 0; come = 1; bytes = bs; size = n; bulk = b }
 
-abbrev pub put_in_edit : ℕ → List ℕ → ℕ → Edit
-put_in_edit k bs n = record { at = k; gone = 0; come = 1; bytes = bs; size = n }
+abbrev pub put_in_edit : ℕ → List ℕ → ℕ → ℕ → Edit
+put_in_edit k bs n b = record { at = k; gone = 0; come = 1; bytes = bs; size = n; bulk = b }
 
 abbrev pub cut_edit : ℕ → Edit
-cut_edit k = record { at = k; gone = 1; come = 0; bytes = []; size = 0 }
+cut_edit k = record { at = k; gone = 1; come = 0; bytes = []; size = 0; bulk = 0 }
 
 -- where paragraphs behind the last are not there, by 4, and where there is no room, by 6
 abbrev pub editing : Edit → ℕ → List ℕ → Result (Unit {0}) Refusal

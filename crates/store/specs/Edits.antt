@@ -1,7 +1,7 @@
 -- Edits as the code has them.
 --   edit_by, replacement_by       an edit as the specification has it, and as it is made in a book of so many paragraphs
 --   entry_with                    the entry of a paragraph with these tokens
---   bytes_come, counts_come, entry_come   what comes: its bytes, its counts, its entry
+--   bytes_come, bulk_come, counts_come, entry_come   what comes: its bytes, how much it is, its counts, its entry
 --   edit_in                  a replacement as an edit
 --   Replaces                 what a replacement is made from
 use Rattle.std.specs.Prelude.{◌≡◌, ℕ, ◌+◌, ◌*◌, ◌≤◌, true, List, [], ◌∷◌, length, Some, None, Option, nat_lt}
@@ -18,8 +18,8 @@ use Rattle.store.specs.declared.kept.Counts.{Counts}
 use Rattle.store.specs.declared.kept.Kept.{Kept}
 
 abbrev pub edit_by : Edit → List ℕ → Changes.Edit
-edit_by (Put k new) rs = put_edit k new.bytes.now new.size rs
-edit_by (PutIn k new) rs = put_in_edit k new.bytes.now new.size
+edit_by (Put k new) rs = put_edit k new.bytes.now new.size new.bulk rs
+edit_by (PutIn k new) rs = put_in_edit k new.bytes.now new.size new.bulk
 edit_by (Cut k) rs = cut_edit k
 
 abbrev pub replacement_by : Edit → ℕ → Replacement
@@ -34,12 +34,19 @@ abbrev pub bytes_in : Option Content → List ℕ
 bytes_in (Some new) = new.bytes.now
 bytes_in None = []
 
+abbrev pub bulk_in : Option Content → ℕ
+bulk_in (Some new) = new.bulk
+bulk_in None = 0
+
 abbrev pub counts_in_content : Option Content → Counts
 counts_in_content (Some new) = record { paragraphs = 1; size = new.size; bytes = length new.bytes.now }
 counts_in_content None = record { paragraphs = 0; size = 0; bytes = 0 }
 
 abbrev pub bytes_come : Replacement → List ℕ
 bytes_come c = bytes_in c.new
+
+abbrev pub bulk_come : Replacement → ℕ
+bulk_come c = bulk_in c.new
 
 abbrev pub counts_come : Replacement → Counts
 counts_come c = counts_in_content c.new
@@ -48,7 +55,7 @@ abbrev pub entry_come : Replacement → Option (List ℕ)
 entry_come c = option_map entry_with c.new
 
 abbrev pub edit_in : Replacement → Changes.Edit
-edit_in c = record { at = c.at; gone = c.gone; come = (counts_come c).paragraphs; bytes = bytes_come c; size = (counts_come c).size }
+edit_in c = record { at = c.at; gone = c.gone; come = (counts_come c).paragraphs; bytes = bytes_come c; size = (counts_come c).size; bulk = bulk_come c }
 
 -- what a replacement is made from: an open book, what is kept of it, and the counts of what stands before the place and of what goes
 pub record Replaces (ts rs : List ℕ) (k : Kept) (before part : Counts) (c : Replacement) : Type 0 where

@@ -1,17 +1,18 @@
 // The changes to a book: a paragraph is put, put in or cut. What stands behind it in memory follows, and what is freed is 0.
 ghost use Rattle.std.specs.Prelude.{◌≡◌, ◌≤◌, length, slice_set};
 ghost use Rattle.store.specs.Changes.{Changes};
-ghost use Rattle.store.specs.Edits.{edit_by, replacement_by, edit_in, entry_with, bytes_come, counts_come, entry_come, Replaces};
+ghost use Rattle.store.specs.Edits.{edit_by, replacement_by, edit_in, entry_with, bytes_come, bulk_come, counts_come, entry_come, Replaces};
 
 use crate::kept::{Counts, Entry, Kept, entry_start, open_book};
 use crate::splice::splice;
 use wire::Refusal;
 
-// The tokens of a paragraph, and their size.
+// The tokens of a paragraph, their size, and how much the paragraph is.
 #[derive(Clone, Copy, Debug, PartialEq, Eq)]
 pub struct Content<'a> {
     pub bytes: &'a [u8],
     pub size: usize,
+    pub bulk: usize,
 }
 
 impl From<Content<'_>> for Entry {
@@ -86,6 +87,12 @@ impl<'a> Replacement<'a> {
         self.new.map_or(&[], |content| content.bytes)
     }
 
+    fn bulk(self) -> usize
+        ensures { result ≡ bulk_come self.entry }
+    {
+        self.new.map_or(0, |content| content.bulk)
+    }
+
     fn entry(self) -> Option<Entry>
         ensures { result ≡ entry_come self.entry }
     {
@@ -111,15 +118,15 @@ fn make(
     requires { Replaces tokens.old rest.old kept before gone replacement }
     ensures { Changes (edit_in replacement.entry) tokens.old rest.old tokens.new rest.new result }
 {
-    let come = replacement.come();
-    if come.size > kept.limits.bulk as usize {
+    if replacement.bulk() > kept.limits.bulk as usize {
         return Err(Refusal::TooMuch);
     }
+    let come = replacement.come();
     let counts = kept.counts;
-    // Field by field: an `Add` of counts would have no place to say that its sums fit.
+    // Field by field: an `Add` of counts would have no place to say that its sums fit. A size that is too large to tell is too much.
     let after = Counts {
         paragraphs: counts.paragraphs - gone.paragraphs + come.paragraphs,
-        size: counts.size - gone.size + come.size,
+        size: (counts.size - gone.size).saturating_add(come.size),
         bytes: counts.bytes - gone.bytes + come.bytes,
     };
     if !after.within(kept.limits) {

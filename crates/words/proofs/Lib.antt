@@ -1,5 +1,8 @@
+pub mod Decoding
 pub mod Reading
+pub mod ReadingAtoms
 pub mod Places
 pub mod Parting
-pub mod Good
+pub mod LineParts
 pub mod Broken
+pub mod Good

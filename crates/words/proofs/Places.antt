@@ -1,12 +1,9 @@
 -- A word put into a slot: what the row has then, and what it keeps.
-use Rattle.std.proofs.Common.{◌≡◌, ℕ, zero, suc, ◌+◌, ◌*◌, ◌<◌, ◌≤◌, List, ◌++◌, length, get_or, take, drop, sym, refl, ap, ◌∙◌, subst, inl, inr, add-zero, arith}
-use Rattle.std.proofs.lemmas.List.{append_assoc, length-append, length-take-le, length-drop, get_or_append_left, get_or-append-add, get_or-take, drop_at, drop-drop}
-use Rattle.std.proofs.lemmas.Bool.{cases_eq}
+use Rattle.std.proofs.Common.{◌≡◌, ℕ, zero, suc, ◌+◌, ◌<◌, ◌≤◌, List, ◌++◌, length, get_or, take, drop, sym, refl, ap, ◌∙◌, add-zero, arith}
+use Rattle.std.proofs.lemmas.List.{append_assoc, length-append, length-take-le, length-drop, get_or_append_left, get_or-append-add, get_or-take, drop_at}
 use Rattle.std.specs.Simd.{first_chunks}
-use Rattle.meaning.specs.Lines
 use Rattle.wire.proofs.Chunks.{chunk_at}
-use Rattle.words.specs.Slots.{slot_place, slot_numbers, slot_word, word_in, with_slot, WordsIn, Lies, Stays}
-use Rattle.words.specs.Laws.{Measured}
+use Rattle.words.specs.Slots.{slot_place, slot_numbers, slot_word, word_in, with_slot}
 use Rattle.words.specs.declared.slots.Word.{Word}
 
 -- a slot is eight numbers of the row
@@ -14,13 +11,13 @@ pub slot_word_at : (slots d : List ℕ) (count k : ℕ) → k < count → slot_w
 slot_word_at slots d count k l =
     let there : (j : ℕ) → j < 8 → get_or (get_or (first_chunks 8 count slots) k d) j 0 ≡ get_or slots (slot_place k + j) 0 = λ j h. chunk_at 8 count d slots k j l h in
     let p : get_or (get_or (first_chunks 8 count slots) k d) 0 0 ≡ get_or slots (slot_place k) 0 = rw add-zero at (there 0 (omega arith)) in
-    λ i. record { first = p i; atoms = there 1 (omega arith) i; width = there 2 (omega arith) i }
+    λ i. record { first = p i; numbers = there 1 (omega arith) i; width = there 2 (omega arith) i }
 
 module _ (slots : List ℕ) (n : ℕ) (v : Word) (room : slot_place (n + 1) ≤ length slots) where
   length_before : length (take (slot_place n) slots) ≡ slot_place n
   length_before = length-take-le (slot_place n) slots (omega arith)
 
-  length_with_slot : length (with_slot slots n v) ≡ length slots
+  pub length_with_slot : length (with_slot slots n v) ≡ length slots
   length_with_slot =
       omega (
         arith,
@@ -29,18 +26,18 @@ module _ (slots : List ℕ) (n : ℕ) (v : Word) (room : slot_place (n + 1) ≤ 
         length-drop (slot_place (n + 1)) slots,
       )
 
-  getD_before_slot : (p : ℕ) → p < slot_place n → get_or (with_slot slots n v) p 0 ≡ get_or slots p 0
+  pub getD_before_slot : (p : ℕ) → p < slot_place n → get_or (with_slot slots n v) p 0 ≡ get_or slots p 0
   getD_before_slot p l =
       get_or_append_left (take (slot_place n) slots) (slot_numbers v ++ drop (slot_place (n + 1)) slots) 0 p (omega (arith, length_before))
       ∙ get_or-take (slot_place n) slots p 0 l
 
-  getD_in_slot : (j : ℕ) → j < 8 → get_or (with_slot slots n v) (slot_place n + j) 0 ≡ get_or (slot_numbers v) j 0
+  pub getD_in_slot : (j : ℕ) → j < 8 → get_or (with_slot slots n v) (slot_place n + j) 0 ≡ get_or (slot_numbers v) j 0
   getD_in_slot j l =
       ap (λ p. get_or (with_slot slots n v) (p + j) 0) (sym length_before)
       ∙ get_or-append-add (take (slot_place n) slots) (slot_numbers v ++ drop (slot_place (n + 1)) slots) j 0
       ∙ get_or_append_left (slot_numbers v) (drop (slot_place (n + 1)) slots) 0 j l
 
-  drop_with_slot : drop (slot_place (n + 1)) (with_slot slots n v) ≡ drop (slot_place (n + 1)) slots
+  pub drop_with_slot : drop (slot_place (n + 1)) (with_slot slots n v) ≡ drop (slot_place (n + 1)) slots
   drop_with_slot =
       ap (drop (slot_place (n + 1))) (sym (append_assoc (take (slot_place n) slots) (slot_numbers v) (drop (slot_place (n + 1)) slots)))
       ∙ drop_at (take (slot_place n) slots ++ slot_numbers v) (drop (slot_place (n + 1)) slots) (slot_place (n + 1))
@@ -49,19 +46,19 @@ module _ (slots : List ℕ) (n : ℕ) (v : Word) (room : slot_place (n + 1) ≤ 
   pub word_in_slot : word_in (with_slot slots n v) n ≡ v
   word_in_slot =
       let p : get_or (with_slot slots n v) (slot_place n) 0 ≡ v.first = rw add-zero at (getD_in_slot 0 (omega arith)) in
-      let q : get_or (with_slot slots n v) (slot_place n + 1) 0 ≡ v.atoms = getD_in_slot 1 (omega arith) in
+      let q : get_or (with_slot slots n v) (slot_place n + 1) 0 ≡ v.numbers = getD_in_slot 1 (omega arith) in
       let r : get_or (with_slot slots n v) (slot_place n + 2) 0 ≡ v.width = getD_in_slot 2 (omega arith) in
-      λ i. record { first = p i; atoms = q i; width = r i }
+      λ i. record { first = p i; numbers = q i; width = r i }
 
   pub word_in_other : (k : ℕ) → k < n → word_in (with_slot slots n v) k ≡ word_in slots k
   word_in_other k l =
       let p : get_or (with_slot slots n v) (slot_place k) 0 ≡ get_or slots (slot_place k) 0 = getD_before_slot (slot_place k) (omega arith) in
       let q : get_or (with_slot slots n v) (slot_place k + 1) 0 ≡ get_or slots (slot_place k + 1) 0 = getD_before_slot (slot_place k + 1) (omega arith) in
       let r : get_or (with_slot slots n v) (slot_place k + 2) 0 ≡ get_or slots (slot_place k + 2) 0 = getD_before_slot (slot_place k + 2) (omega arith) in
-      λ i. record { first = p i; atoms = q i; width = r i }
+      λ i. record { first = p i; numbers = q i; width = r i }
 
 -- all behind a word's width is 0
-blank_numbers : (v : Word) (j : ℕ) → 3 ≤ j → j < 8 → get_or (slot_numbers v) j 0 ≡ 0
+pub blank_numbers : (v : Word) (j : ℕ) → 3 ≤ j → j < 8 → get_or (slot_numbers v) j 0 ≡ 0
 blank_numbers v zero a b = absurd (omega arith)
 blank_numbers v (suc zero) a b = absurd (omega arith)
 blank_numbers v (suc (suc zero)) a b = absurd (omega arith)
@@ -71,58 +68,3 @@ blank_numbers v (suc (suc (suc (suc (suc zero))))) a b = refl
 blank_numbers v (suc (suc (suc (suc (suc (suc zero)))))) a b = refl
 blank_numbers v (suc (suc (suc (suc (suc (suc (suc zero))))))) a b = refl
 blank_numbers v (suc (suc (suc (suc (suc (suc (suc (suc j)))))))) a b = absurd (omega arith)
-
-pub stays_none : (slots : List ℕ) → Stays slots slots 0 0
-stays_none slots =
-    record {
-      few = omega arith;
-      each = λ k l. absurd (omega arith);
-      blank = λ k j l. absurd (omega arith);
-      as_long = refl;
-      behind = refl;
-    }
-
-module _ {before slots : List ℕ} {at n : ℕ} (s : Stays before slots at n) where
-  pub stays_later : (later : ℕ) → at ≤ later → Stays before slots later n
-  stays_later later l =
-      record {
-        few = omega (arith, s.few);
-        each = λ k h. lies_later (word_in slots k) (s.each k h);
-        blank = s.blank;
-        as_long = s.as_long;
-        behind = s.behind;
-      }
-    where
-      lies_later : (v : Word) → Lies v at → Lies v later
-      lies_later v h = record { some = h.some; within = omega (arith, h.within); narrow = h.narrow }
-
-  pub stays_more : (v : Word) → Lies v at → n < at → slot_place (n + 1) ≤ length slots → Stays before (with_slot slots n v) at (n + 1)
-  stays_more v h l room =
-      record {
-        few = omega arith;
-        each = λ k m. elim (cases_eq k n) [
-          | inl e ↦ subst (λ u. Lies u at) (sym (ap (word_in (with_slot slots n v)) e ∙ word_in_slot slots n v room)) h
-          | inr e ↦ subst (λ u. Lies u at) (sym (word_in_other slots n v room k (omega arith))) (s.each k (omega arith))
-        ];
-        blank = λ k j m a b. elim (cases_eq k n) [
-          | inl e ↦ ap (λ i. get_or (with_slot slots n v) (slot_place i + j) 0) e ∙ getD_in_slot slots n v room j b ∙ blank_numbers v j a b
-          | inr e ↦ getD_before_slot slots n v room (slot_place k + j) (omega arith) ∙ s.blank k j (omega arith) a b
-        ];
-        as_long = length_with_slot slots n v room ∙ s.as_long;
-        behind = drop_with_slot slots n v room ∙ drop_on slots ∙ ap (drop 8) s.behind ∙ sym (drop_on before);
-      }
-    where
-      drop_on : (xs : List ℕ) → drop (slot_place (n + 1)) xs ≡ drop 8 (drop (slot_place n) xs)
-      drop_on xs = ap (λ p. drop p xs) (omega arith) ∙ sym (drop-drop 8 (slot_place n) xs)
-
-pub slots_measured :
-    (wide : ℕ → ℕ) (atoms before after : List ℕ) (n : ℕ) (ws : List Lines.Word) → length atoms ≤ 4096 → 8 * length atoms ≤ length before →
-    Stays before after (length atoms) n → WordsIn wide ws atoms after n → Measured wide ws after n
-slots_measured wide atoms before after n ws small room s d =
-    record {
-      as_many = d.as_many;
-      each = λ k l. sym (d.each k l).width;
-      narrow = λ k l. omega (arith, (s.each k l).narrow, (s.each k l).within);
-      room = omega (arith, s.as_long, s.few);
-      few = omega (arith, s.few);
-    }

@@ -1,131 +1,120 @@
 -- Tokens read one by one, each as an atom behind the atoms before it.
-use Rattle.std.proofs.Common.{◌≡◌, ℕ, ◌+◌, ◌<◌, ◌≤◌, true, leb, List, [], ◌∷◌, ◌++◌, map, length, get_or, drop, set, Some, None, Option, Result, Ok, Err, sym, refl, ap, ◌∙◌, subst, arith}
-use Rattle.std.proofs.lemmas.List.{append-nil, append_assoc, length-append, length_push, length-map, set_at, drop_more, map_push}
-use Rattle.std.proofs.lemmas.Bool.{le-leb, leb-true, lt-leb, and_from, and_parts}
-use Rattle.meaning.specs.Text.{Atom, none}
-use Rattle.meaning.proofs.Picks.{pick_true, pick_false, some_picked}
+use Rattle.std.proofs.Common.{◌≡◌, ℕ, ◌+◌, ◌<◌, ◌≤◌, true, false, leb, ltb, List, [], ◌∷◌, ◌++◌, length, get_or, drop, set, Some, None, Option, sym, refl, ap, ◌∙◌, subst, arith}
+use Rattle.std.specs.Option.{option_map}
+use Rattle.std.proofs.lemmas.List.{append-nil, append_assoc, length-append, length_push, set_at, drop_more}
+use Rattle.std.proofs.lemmas.Bool.{le-leb, lt-leb, lt-ltb, and_from, and_parts}
+use Rattle.meaning.specs.Text.{pick, none}
+use Rattle.meaning.specs.Promise.{all_below}
+use Rattle.meaning.proofs.Picks.{pick_true, pick_false}
 use Rattle.wire.specs.Bytes.{tokens_of}
 use Rattle.wire.specs.Cut.{token_of, First}
 use Rattle.wire.specs.declared.token.Token.{Token}
-use Rattle.std.specs.Result.{result_ok}
-use Rattle.words.specs.declared.read
-use Rattle.words.specs.declared.read.NoAtom.{NoAtom}
-use Rattle.words.specs.Atoms.{atom_number, atom_of, AtomOf, is_plain, all_plain, plain_atom, before_all, plain_atoms, within, plain_within, how_many, PlainIfAny, Written, Writes}
+use Rattle.words.specs.Reads.{before_all, text_letter, is_note, note_text, fitting, Writes, OverIfAny, SmallIfAny}
 
-pub all_plain_push : (xs : List Atom) (x : Atom) → all_plain xs ≡ true → is_plain x ≡ true → all_plain (xs ++ (x ∷ [])) ≡ true
-unfolding all_plain
-all_plain_push [] x p q = and_from (is_plain x) true q refl
-all_plain_push (y ∷ ys) x p q =
-    let h = and_parts (is_plain y) (all_plain ys) p in
-    and_from (is_plain y) (all_plain (ys ++ (x ∷ []))) h.0 (all_plain_push ys x h.1 q)
-
--- atoms that others follow, if those are atoms
-abbrev pub followed_by : List Atom → Option (List Atom) → Option (List Atom)
+-- what others follow, if those are some
+abbrev pub followed_by : {A : Type 0} → List A → Option (List A) → Option (List A)
 followed_by xs None = None
 followed_by xs (Some ys) = Some (xs ++ ys)
 
-followed_by_none : (o : Option (List Atom)) → o ≡ followed_by [] o
+pub followed_by_none : {A : Type 0} (o : Option (List A)) → o ≡ followed_by [] o
 followed_by_none None = refl
 followed_by_none (Some ys) = refl
 
-followed_by_more : (xs : List Atom) (x : Atom) (o : Option (List Atom)) → followed_by xs (before_all (Some x) o) ≡ followed_by (xs ++ (x ∷ [])) o
+pub followed_by_more : {A : Type 0} (xs : List A) (x : A) (o : Option (List A)) → followed_by xs (before_all (Some x) o) ≡ followed_by (xs ++ (x ∷ [])) o
 followed_by_more xs x None = refl
 followed_by_more xs x (Some ys) = ap Some (sym (append_assoc xs (x ∷ []) ys))
 
-within_some : (bulk : ℕ) (xs : List Atom) → length xs ≤ bulk → within bulk (Some xs) ≡ Some xs
-within_some bulk xs l = pick_true (leb (length xs) bulk) (Some xs) None (le-leb (length xs) bulk l)
+pub fitting_some : (most : ℕ) (ns : List ℕ) → length ns ≤ most → fitting most (Some ns) ≡ Some ns
+fitting_some most ns l = pick_true (leb (length ns) most) (Some ns) None (le-leb (length ns) most l)
 
-pub within_few : (bulk : ℕ) (found : Option (List Atom)) (xs : List Atom) → within bulk found ≡ Some xs → length xs ≤ bulk
-within_few bulk None xs e = cc
-within_few bulk (Some ys) xs e =
-    let q : (leb (length ys) bulk ≡ true) × (xs ≡ ys) = some_picked (leb (length ys) bulk) xs ys (sym e) in
-    omega (arith, leb-true (length ys) bulk q.0, ap length q.1)
+pub fitting_none : (most : ℕ) (ns : List ℕ) → most < length ns → fitting most (Some ns) ≡ None
+fitting_none most ns l = pick_false (leb (length ns) most) (Some ns) None (lt-leb (length ns) most l)
 
-within_more : (bulk : ℕ) (xs : List Atom) (x : Atom) (o : Option (List Atom)) → bulk ≤ length xs → within bulk (followed_by xs (before_all (Some x) o)) ≡ None
-within_more bulk xs x None l = refl
-within_more bulk xs x (Some ys) l =
-    pick_false (leb (length (xs ++ (x ∷ ys))) bulk) (Some (xs ++ (x ∷ ys))) None
-    (lt-leb (length (xs ++ (x ∷ ys))) bulk (omega (arith, length-append xs (x ∷ ys))))
+fitting_more : (most : ℕ) (f : List ℕ) (c : ℕ) (o : Option (List ℕ)) → most ≤ length f → fitting most (followed_by f (before_all (Some c) o)) ≡ None
+fitting_more most f c None l = refl
+fitting_more most f c (Some ys) l = fitting_none most (f ++ (c ∷ ys)) (omega (arith, length-append f (c ∷ ys)))
 
--- what a token that is tried as an atom is
-pub tried_none : (t : Token) (r : Result read.Atom.Atom NoAtom) → AtomOf t r → None ≡ result_ok r → plain_atom (token_of t) ≡ None
-tried_none t (Ok a) h e = cc
-tried_none t (Err e) h f = h
-
-pub tried_some : (t : Token) (r : Result read.Atom.Atom NoAtom) (a : read.Atom.Atom) → AtomOf t r → Some a ≡ result_ok r → (plain_atom (token_of t) ≡ Some (atom_of a)) × (is_plain (atom_of a) ≡ true)
-tried_some t (Ok b) a h e = let f : a ≡ b = cc in rw f h
-tried_some t (Err e) a h f = cc
+below_push : (f : List ℕ) (c : ℕ) → all_below 256 f ≡ true → c < 256 → all_below 256 (f ++ (c ∷ [])) ≡ true
+unfolding all_below
+below_push [] c p l = and_from (ltb c 256) true (lt-ltb c 256 l) refl
+below_push (x ∷ xs) c p l =
+    let h = and_parts (ltb x 256) (all_below 256 xs) p in
+    and_from (ltb x 256) (all_below 256 (xs ++ (c ∷ []))) h.0 (below_push xs c h.1 l)
 
 -- one number behind others
-set_more :
+pub set_more :
     (ns before : List ℕ) (n x : ℕ) (row : List ℕ) → length ns ≡ n → n < length before → row ≡ ns ++ drop n before →
     set row n x ≡ (ns ++ (x ∷ [])) ++ drop (n + 1) before
 set_more ns before n x row e l h =
     ap (λ r. set r n x) (h ∙ ap (λ b. ns ++ b) (drop_more before n 0 l)) ∙ set_at ns (get_or before n 0) (drop (n + 1) before) x n e
     ∙ sym (append_assoc ns (x ∷ []) (drop (n + 1) before))
 
--- what has been read of the bytes, before the rest of them
-pub record SoFar (bytes rest : List ℕ) (n : ℕ) (before row : List ℕ) : Type 0 where
-  pub atoms : List Atom
-  pub count : length atoms ≡ n
+-- what has been read of a note's text, before the rest of it
+pub record TextSoFar (bytes rest : List ℕ) (n : ℕ) (before row : List ℕ) : Type 0 where
+  pub text : List ℕ
+  pub count : length text ≡ n
   pub room : n ≤ length before
-  pub plain : all_plain atoms ≡ true
-  pub holds : row ≡ map atom_number atoms ++ drop n before
-  pub all : plain_atoms (tokens_of bytes) ≡ followed_by atoms (plain_atoms (tokens_of rest))
+  pub small : all_below 256 text ≡ true
+  pub holds : row ≡ text ++ drop n before
+  pub all : note_text (tokens_of bytes) ≡ followed_by text (note_text (tokens_of rest))
 
-pub none_so_far : (bytes before : List ℕ) → SoFar bytes bytes 0 before before
-unfolding all_plain
-none_so_far bytes before =
-    record { atoms = []; count = refl; room = omega arith; plain = refl; holds = refl; all = followed_by_none (plain_atoms (tokens_of bytes)) }
+pub no_text_yet : (bytes before : List ℕ) → TextSoFar bytes bytes 0 before before
+unfolding all_below
+no_text_yet bytes before = record { text = []; count = refl; room = omega arith; small = refl; holds = refl; all = followed_by_none (note_text (tokens_of bytes)) }
 
-module _ {bytes before row : List ℕ} where
-  writes_from :
-      (o : Option (List Atom)) (r : Option ℕ) → plain_within (length before) bytes ≡ o → r ≡ how_many o → Written o before row → PlainIfAny o →
-      Writes bytes before row r
-  writes_from o r e count holds plain =
-      record {
-        count = count ∙ ap how_many (sym e);
-        holds = subst (λ (p : Option (List Atom)). Written p before row) (sym e) holds;
-        plain = subst PlainIfAny (sym e) plain;
-      }
+abbrev pub WritesText : List ℕ → List ℕ → List ℕ → Option ℕ → Type 0
+WritesText bytes before row r = Writes (note_text (tokens_of bytes)) before row r × SmallIfAny (fitting (length before) (note_text (tokens_of bytes)))
 
-module _ {bytes rest : List ℕ} {n : ℕ} {before row : List ℕ} (s : SoFar bytes rest n before row) where
-  writes_none : plain_within (length before) bytes ≡ None → Writes bytes before row None
-  writes_none e = writes_from None None e refl tt tt
+module _ (bytes before row : List ℕ) where
+  text_from :
+      (o : Option (List ℕ)) (r : Option ℕ) → fitting (length before) (note_text (tokens_of bytes)) ≡ o → r ≡ option_map length o → OverIfAny o before row → SmallIfAny o →
+      WritesText bytes before row r
+  text_from o r e count holds small = (
+    record { count = count ∙ ap (option_map length) (sym e); holds = subst (λ (p : Option (List ℕ)). OverIfAny p before row) (sym e) holds },
+    subst SmallIfAny (sym e) small,
+  )
 
-  -- at the end
-  pub writes_all : tokens_of rest ≡ none → Writes bytes before row (Some n)
-  unfolding plain_atoms
-  writes_all e =
-      writes_from (Some s.atoms) (Some n)
-      (ap (within (length before)) (s.all ∙ ap (λ ts. followed_by s.atoms (plain_atoms ts)) e ∙ ap Some (append-nil s.atoms)) ∙ within_some (length before) s.atoms (omega (arith, s.count, s.room)))
+  text_none : fitting (length before) (note_text (tokens_of bytes)) ≡ None → WritesText bytes before row None
+  text_none e = text_from None None e refl tt tt
+
+module _ {bytes rest : List ℕ} {n : ℕ} {before row : List ℕ} (s : TextSoFar bytes rest n before row) where
+  pub text_all : tokens_of rest ≡ none → WritesText bytes before row (Some n)
+  unfolding note_text
+  text_all e =
+      text_from bytes before row (Some s.text) (Some n)
+      (ap (fitting (length before)) (s.all ∙ ap (λ ts. followed_by s.text (note_text ts)) e ∙ ap Some (append-nil s.text)) ∙ fitting_some (length before) s.text (omega (arith, s.count, s.room)))
       (ap Some (sym s.count))
-      (s.holds ∙ ap (λ k. map atom_number s.atoms ++ drop k before) (sym s.count))
-      s.plain
+      (s.holds ∙ ap (λ k. s.text ++ drop k before) (sym s.count))
+      s.small
 
   module _ {t : Token} {behind : List ℕ} (first : First rest t behind) where
-    first_atom : (o : Option Atom) → plain_atom (token_of t) ≡ o → plain_atoms (tokens_of rest) ≡ before_all o (plain_atoms (tokens_of behind))
-    unfolding plain_atoms
-    first_atom o e = ap plain_atoms first.tokens ∙ ap (λ p. before_all p (plain_atoms (tokens_of behind))) e
+    next_is : note_text (tokens_of rest) ≡ pick (is_note (token_of t)) (note_text (tokens_of behind)) (before_all (text_letter (token_of t)) (note_text (tokens_of behind)))
+    unfolding note_text
+    next_is = ap note_text first.tokens
 
-    pub writes_no_atom : plain_atom (token_of t) ≡ None → Writes bytes before row None
-    writes_no_atom e = writes_none (ap (within (length before)) (s.all ∙ ap (followed_by s.atoms) (first_atom None e)))
+    -- a note in the note
+    pub text_passed : is_note (token_of t) ≡ true → TextSoFar bytes behind n before row
+    text_passed e = record { text = s.text; count = s.count; room = s.room; small = s.small; holds = s.holds; all = s.all ∙ ap (followed_by s.text) (next_is ∙ pick_true (is_note (token_of t)) _ _ e) }
 
-    module _ {x : Atom} (e : plain_atom (token_of t) ≡ Some x) where
-      pub writes_no_room : n ≡ length before → Writes bytes before row None
-      writes_no_room full =
-          writes_none
-          (ap (within (length before)) (s.all ∙ ap (followed_by s.atoms) (first_atom (Some x) e))
-          ∙ within_more (length before) s.atoms x (plain_atoms (tokens_of behind)) (omega (arith, s.count)))
+    module _ (other : is_note (token_of t) ≡ false) (o : Option ℕ) (e : o ≡ text_letter (token_of t)) where
+      found : note_text (tokens_of bytes) ≡ followed_by s.text (before_all o (note_text (tokens_of behind)))
+      found = s.all ∙ ap (followed_by s.text) (next_is ∙ pick_false (is_note (token_of t)) _ _ other ∙ ap (λ (p : Option ℕ). before_all p (note_text (tokens_of behind))) (sym e))
 
-      pub so_far_more : is_plain x ≡ true → n < length before → SoFar bytes behind (n + 1) before (set row n (atom_number x))
-      so_far_more p l =
+    -- a token that has no place in a note
+    pub text_refused : is_note (token_of t) ≡ false → None ≡ text_letter (token_of t) → WritesText bytes before row None
+    text_refused other e = text_none bytes before row (ap (fitting (length before)) (found other None e))
+
+    module _ {c : ℕ} (other : is_note (token_of t) ≡ false) (e : Some c ≡ text_letter (token_of t)) where
+      pub text_no_room : n ≡ length before → WritesText bytes before row None
+      text_no_room full = text_none bytes before row (ap (fitting (length before)) (found other (Some c) e) ∙ fitting_more (length before) s.text c (note_text (tokens_of behind)) (omega (arith, s.count)))
+
+      pub text_more : c < 256 → n < length before → TextSoFar bytes behind (n + 1) before (set row n c)
+      text_more small l =
           record {
-            atoms = s.atoms ++ (x ∷ []);
-            count = length_push s.atoms x ∙ ap (λ k. k + 1) s.count;
+            text = s.text ++ (c ∷ []);
+            count = length_push s.text c ∙ ap (λ k. k + 1) s.count;
             room = omega arith;
-            plain = all_plain_push s.atoms x s.plain p;
-            holds = set_more (map atom_number s.atoms) before n (atom_number x) row (length-map s.atoms atom_number ∙ s.count) l s.holds
-                ∙ ap (λ ns. ns ++ drop (n + 1) before) (sym (map_push atom_number s.atoms x));
-            all = s.all ∙ ap (followed_by s.atoms) (first_atom (Some x) e) ∙ followed_by_more s.atoms x (plain_atoms (tokens_of behind));
+            small = below_push s.text c s.small small;
+            holds = set_more s.text before n c row s.count l s.holds;
+            all = found other (Some c) e ∙ followed_by_more s.text c (note_text (tokens_of behind));
           }

@@ -1,4 +1,5 @@
 pub mod Atoms
+pub mod Reads
 pub mod Slots
-pub mod Laws
 pub mod Lined
+pub mod Laws

@@ -1,83 +1,91 @@
-// Tokens read into atoms, one number each, from the start of a row on.
-ghost use Rattle.std.specs.Prelude.{◌≡◌, Some, codes};
-ghost use Rattle.words.specs.Atoms.{atom_number, atom_of, AtomOf, Reads, Writes};
+// Tokens read into atoms, from the start of a row on.
+ghost use Rattle.std.specs.Prelude.{◌≡◌, ◌<◌, length, IfSome};
+ghost use Rattle.std.specs.Option.{option_map};
+ghost use Rattle.wire.specs.Bytes.{tokens_of};
+ghost use Rattle.wire.specs.Cut.{token_of};
+ghost use Rattle.words.specs.Atoms.{numbers_of};
+ghost use Rattle.words.specs.Reads.{text_letter, is_note, note_text, stage_atom, fitting, Reads, ReadsSome, Writes, SmallIfAny, AtomPlainIfAny};
 
-use std::error::Error;
-use std::fmt;
+use crate::atoms::{GAP, NOTE};
 use wire::{Token, Tokens};
 
-// A gap's number: no letter has it, since letters are bytes.
-pub(crate) const GAP: u64 = 256;
-
-#[derive(Clone, Copy, Debug, PartialEq, Eq)]
-pub(crate) enum Atom {
-    Letter(u8),
-    Gap,
-}
-
-impl From<Atom> for u64 {
-    ghost from_gives = { λ atom number. number ≡ atom_number (atom_of atom) };
-
-    fn from(atom: Atom) -> u64 {
-        match atom {
-            Atom::Letter(c) => u64::from(c),
-            Atom::Gap => GAP,
-        }
+// What a token is in a note, if it is a letter or a space.
+fn text_letter(token: Token<'_>) -> Option<u8>
+    ensures value { result ≡ text_letter (token_of token.entry) }
+    ensures small { IfSome result (λ letter. letter < 256) }
+{
+    match token {
+        Token::Letter(c) => Some(c),
+        Token::Space => Some(b' '),
+        _ => None,
     }
 }
 
-// Of a token that is no letter and no space: none of these is an atom yet.
-#[derive(Clone, Copy, Debug, PartialEq, Eq)]
-pub(crate) struct NoAtom;
-
-impl fmt::Display for NoAtom {
-    ghost output = { λ _. Some (codes "a token is no atom") };
-
-    fn fmt<W: fmt::Write>(&self, f: &mut fmt::Formatter<W>) -> fmt::Result {
-        f.write_str("a token is no atom")
-    }
+fn is_note(token: Token<'_>) -> bool
+    ensures { result ≡ is_note (token_of token.entry) }
+{
+    matches!(token, Token::Note(_))
 }
 
-impl Error for NoAtom {}
-
-impl TryFrom<Token<'_>> for Atom {
-    type Error = NoAtom;
-
-    ghost try_from_gives = { AtomOf };
-
-    fn try_from(token: Token<'_>) -> Result<Atom, NoAtom> {
-        match token {
-            Token::Letter(c) => Ok(Atom::Letter(c)),
-            Token::Space => Ok(Atom::Gap),
-            _ => Err(NoAtom),
-        }
-    }
-}
-
-// How many atoms there were; None where there is no room for all, or a token is no atom.
-// The atoms are counted by hand, since after `get_mut`, or after `zip` over `iter_mut`, a proof knows no element of the slice.
-fn write_atoms(tokens: &[u8], atoms: &mut [u64]) -> Option<usize>
-    ensures { Writes tokens.now atoms.old atoms.new result }
+// A note's letters and spaces: how many; None where there is no room for all, or a token is neither. Notes in it are left out.
+// They are counted by hand, since after `get_mut`, or after `zip` over `iter_mut`, a proof knows no element of the slice.
+fn write_text(tokens: &[u8], row: &mut [u64]) -> Option<usize>
+    ensures text { Writes (note_text (tokens_of tokens.now)) row.old row.new result }
+    ensures small { SmallIfAny (fitting (length row.old) (note_text (tokens_of tokens.now))) }
 {
     let mut n = 0;
     for token in Tokens(tokens) {
-        let atom = Atom::try_from(token).ok()?;
-        if n == atoms.len() {
+        if is_note(token) {
+            continue;
+        }
+        let letter = text_letter(token)?;
+        if n == row.len() {
             return None;
         }
-        atoms[n] = u64::from(atom);
+        row[n] = u64::from(letter);
         n += 1;
     }
     Some(n)
 }
 
-// The atoms of letters and spaces, as many as there is room for: how many, or None, and then there are only zeros.
-pub fn read_atoms(tokens: &[u8], atoms: &mut [u64]) -> Option<usize>
-    ensures { Reads tokens.now atoms.old atoms.new result }
+// The numbers of a token's atom: how many; None where there is no room for all, or the stage has no such atom.
+fn write_atom(token: Token<'_>, row: &mut [u64]) -> Option<usize>
+    ensures numbers { Writes (option_map numbers_of (stage_atom (token_of token.entry))) row.old row.new result }
+    ensures plain { IfSome result (λ _. AtomPlainIfAny (stage_atom (token_of token.entry))) }
 {
-    let read = write_atoms(tokens, atoms);
+    if row.is_empty() {
+        return None;
+    }
+    match token {
+        Token::Letter(c) => row[0] = u64::from(c),
+        Token::Space => row[0] = GAP,
+        Token::Note(inside) => {
+            let letters = write_text(inside, &mut row[1..])?;
+            row[0] = NOTE + letters as u64;
+            return Some(1 + letters);
+        }
+        _ => return None,
+    }
+    Some(1)
+}
+
+fn write_atoms(tokens: &[u8], row: &mut [u64]) -> Option<usize>
+    ensures { ReadsSome tokens.now row.old row.new result }
+{
+    let mut n = 0;
+    for token in Tokens(tokens) {
+        n += write_atom(token, &mut row[n..])?;
+    }
+    Some(n)
+}
+
+// The atoms of letters, spaces and notes, one number each, and a note one besides those in it: how many numbers, or None, and then there are only zeros.
+pub fn read_atoms(tokens: &[u8], row: &mut [u64]) -> Option<usize>
+    ensures { Reads tokens.now (length row.old) row.old row.new result }
+{
+    let read = write_atoms(tokens, row);
     if read.is_none() {
-        atoms.fill(0);
+        row.fill(0);
     }
     read
 }

@@ -1,25 +1,35 @@
 // Words, each in a slot of eight numbers.
 ghost use Rattle.std.specs.Prelude.{◌≡◌, ◌+◌, ◌^◌, ◌<◌, ◌≤◌, length, ◌==◌};
 ghost use Rattle.meaning.specs.Text.{pick};
-ghost use Rattle.words.specs.Slots.{slot_place, slot_numbers, slot_word, with_slot, with_letter};
+ghost use Rattle.words.specs.Atoms.{numbers_of, atom_of};
+ghost use Rattle.words.specs.Slots.{slot_place, slot_numbers, slot_word, with_slot, with_atom, wide_by};
 
+use crate::atoms::Atom;
+use crate::split::letter_width;
 use linebreak::SLOT;
+use wire::LETTERS;
 
-// A word's atoms are so many from the first on; its width is that of its letters together.
+// A word's atoms have so many numbers in a row, from the first on; its width is that of its letters together.
 #[derive(Clone, Copy, Debug, Default, PartialEq, Eq)]
 pub struct Word {
     pub first: usize,
-    pub atoms: usize,
+    pub numbers: usize,
     pub width: usize,
 }
 
 impl Word {
-    pub(crate) fn with_letter(self, width: usize) -> Word
-        requires { (self.atoms + 1 < 2 ^ 64) × (self.width + width < 2 ^ 64) }
-        ensures { result ≡ with_letter self width }
+    // What is no letter is no wider than nothing.
+    pub(crate) fn with_atom(self, atom: Atom<'_>, widths: &[u8; LETTERS]) -> Word
+        requires { (self.numbers + length (numbers_of (atom_of atom)) < 2 ^ 64) × (self.width + 255 < 2 ^ 64) }
+        ensures value { result ≡ with_atom (wide_by widths.now) self (atom_of atom.entry) }
+        ensures narrow { result.width ≤ self.width + 255 }
     {
+        let width = match atom {
+            Atom::Letter(c) => letter_width(widths, c),
+            Atom::Gap | Atom::Mark(_) | Atom::Note(_) => 0,
+        };
         Word {
-            atoms: self.atoms + 1,
+            numbers: self.numbers + atom.numbers(),
             width: self.width + width,
             ..self
         }
@@ -30,10 +40,10 @@ impl From<&[u64; SLOT]> for Word {
     ghost from_gives = { λ slot word. word ≡ slot_word slot.now };
 
     fn from(slot: &[u64; SLOT]) -> Word {
-        let [first, atoms, width, ..] = *slot;
+        let [first, numbers, width, ..] = *slot;
         Word {
             first: first as usize,
-            atoms: atoms as usize,
+            numbers: numbers as usize,
             width: width as usize,
         }
     }
@@ -45,20 +55,20 @@ impl From<Word> for [u64; SLOT] {
     fn from(word: Word) -> [u64; SLOT] {
         let Word {
             first,
-            atoms,
+            numbers,
             width,
         } = word;
-        [first as u64, atoms as u64, width as u64, 0, 0, 0, 0, 0]
+        [first as u64, numbers as u64, width as u64, 0, 0, 0, 0, 0]
     }
 }
 
-// How many words there are then: one without letters is none.
+// How many words there are then: one without atoms is none.
 pub(crate) fn close_word(slots: &mut [u64], k: usize, word: Word) -> usize
-    requires { ((0 < word.atoms → slot_place (k + 1) ≤ length slots.old)) × (k ≤ 4096) }
-    ensures value { result ≡ pick (word.atoms == 0) k (k + 1) }
-    ensures after { slots.new ≡ pick (word.atoms == 0) slots.old (with_slot slots.old k word) }
+    requires { ((0 < word.numbers → slot_place (k + 1) ≤ length slots.old)) × (k ≤ 4096) }
+    ensures value { result ≡ pick (word.numbers == 0) k (k + 1) }
+    ensures after { slots.new ≡ pick (word.numbers == 0) slots.old (with_slot slots.old k word) }
 {
-    if word.atoms == 0 {
+    if word.numbers == 0 {
         return k;
     }
     let at = SLOT * k;

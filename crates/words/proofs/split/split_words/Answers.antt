@@ -1,26 +1,27 @@
-use Rattle.std.proofs.Common.{arith}
-use Rattle.words.proofs.Parting.{seen_none, seen_letter, seen_gap, stays_all, words_all}
+use Rattle.std.proofs.Common.{◌+◌}
+use Rattle.words.proofs.Parting.{seen_none, seen_more_there, seen_gap_there, split_done, room_for_one, splits_narrow}
 use Rattle.words.proofs.split.split_words.Goals as goal
-use Rattle.words.proofs.split.split_words.Goals.{then-atom-eq-GAP, else-atom-eq-GAP}
 
-pub loop-at-init : goal.loop-at-init
-loop-at-init c =
+pub loop-atom-init : goal.loop-atom-init
+loop-atom-init c =
     let (first, others) = c.default-word.ensures in
-    seen_none (λ i. record { first = first i; atoms = others.0 i; width = others.1 i })
+    rw c.into_iter-atom-iterator.ensures.into_iter_gives (seen_none (λ i. record { first = first i; numbers = others.0 i; width = others.1 i }))
 
-pub loop-at-preserved : goal.loop-at-preserved
-loop-at-preserved c =
-    elim c.if-atom-eq-GAP.branch [
-      | then-atom-eq-GAP w ↦
-          simp (w.slots-is, w.words-is, w.word-is, w.default.ensures.1.0, w.default.ensures.1.1)
-          (seen_gap c.loop-at.invariant c.requires.1 c.loop-at-test.true w.if-atom-eq-GAP.true w.close_word-words.ensures.value w.close_word-words.ensures.after)
-      | else-atom-eq-GAP w ↦
-          simp (w.slots-is, w.words-is, w.word-is, w.with_letter-word.ensures)
-          (seen_letter c.loop-at.invariant c.requires.1 c.loop-at-test.true w.if-atom-eq-GAP.false w.letter_width.ensures.value w.letter_width.ensures.small)
-    ]
+pub loop-atom-preserved-in-Gap : goal.loop-atom-preserved-in-Gap
+loop-atom-preserved-in-Gap c =
+    let (first, others) = c.default.ensures in
+    seen_gap_there c.loop-atom.invariant c.in-Some.ensures.steps c.numbers-at.ensures c.in-Gap.is c.requires.1 c.close_word-words.ensures.value c.close_word-words.ensures.after
+    (λ i. record { first = c.loop-atom.at + c.numbers-at.result; numbers = others.0 i; width = others.1 i })
+
+pub loop-atom-preserved : goal.loop-atom-preserved
+loop-atom-preserved c =
+    seen_more_there c.loop-atom.invariant c.in-Some.ensures.steps c.numbers-at.ensures c.in_default.not-Gap c.with_atom-word.ensures.value c.with_atom-word.ensures.narrow
 
 pub returns-clause-words : goal.returns-clause-words
-returns-clause-words c = words_all c.loop-at.invariant c.requires.1 (omega arith) c.close_word.ensures.value c.close_word.ensures.after
+returns-clause-words c =
+    split_done c.loop-atom.invariant c.close_word.ensures.value c.close_word.ensures.after (room_for_one c.loop-atom.invariant c.requires.1) c.in-None.ensures.steps.0
 
-pub returns-clause-same : goal.returns-clause-same
-returns-clause-same c = stays_all c.loop-at.invariant c.requires.1 (omega arith) c.close_word.ensures.value c.close_word.ensures.after
+pub returns-clause-narrow : goal.returns-clause-narrow
+returns-clause-narrow c =
+    splits_narrow c.requires.0
+    (split_done c.loop-atom.invariant c.close_word.ensures.value c.close_word.ensures.after (room_for_one c.loop-atom.invariant c.requires.1) c.in-None.ensures.steps.0)

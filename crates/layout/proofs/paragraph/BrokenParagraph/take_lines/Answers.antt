@@ -1,26 +1,20 @@
-use Rattle.std.proofs.Common.{map, ap, ◌∙◌, subst}
-use Rattle.meaning.specs.Calls.{letters_of}
-use Rattle.layout.specs.Paragraphs.{broken_lines, line_row}
-use Rattle.layout.specs.Finishes.{Takes}
-use Rattle.layout.proofs.LineSteps.{rows_are, all_within}
-use Rattle.layout.proofs.Taking.{takes_none, takes_done}
+use Rattle.std.proofs.Common.{sym, ◌∙◌}
+use Rattle.layout.proofs.LineWalks.{taken_start, taken_outside, taken_inside, taken_all}
 use Rattle.layout.proofs.paragraph.BrokenParagraph.take_lines.Goals as goal
+use Rattle.layout.proofs.paragraph.BrokenParagraph.take_lines.Goals.{then-is_inside, else-is_inside}
 
 pub loop-words-init : goal.loop-words-init
-loop-words-init c =
-    let p = c.args.self.now in
-    let rows = c.args.rows.now in
-    let all = letters_of (broken_lines p) in
-    rw (c.into_iter-words-iterator.ensures.into_iter_gives ∙ c.lines-words-items.ensures)
-    (record {
-      within = all_within p.sheet.now p.atoms.now p.slots.now p.lines;
-      taken = subst (Takes rows rows all) (rows_are p.sheet.now p.atoms.now p.slots.now p.lines) (takes_none rows all);
-    })
+loop-words-init c = rw (c.into_iter-words-iterator.ensures.into_iter_gives ∙ c.lines-words-items.ensures) (taken_start c.args.self.now c.args.part c.args.window c.args.rows.now c.args.notes.now)
 
-pub returns-in-None : goal.returns-in-None
-returns-in-None c =
-    let p = c.args.self.now in
-    subst (Takes c.args.rows.now c.loop-words.rows (letters_of (broken_lines p))) (ap (map (line_row p)) c.in-None.ensures.steps.0) c.loop-words.invariant.taken
+pub loop-words-preserved : goal.loop-words-preserved
+loop-words-preserved c =
+    elim c.if-is_inside.branch [
+      | then-is_inside w ↦ rw (w.rows-is, w.notes-is) (taken_inside c.loop-words.invariant c.in-Some.ensures.steps c.passed-window.ensures (sym w.if-is_inside.ensures) w.take.ensures.rows w.take.ensures.notes)
+      | else-is_inside w ↦ rw (w.rows-is, w.notes-is) (taken_outside c.loop-words.invariant c.in-Some.ensures.steps c.passed-window.ensures (sym w.if-is_inside.ensures))
+    ]
 
-pub returns-then-rows-eq0 : goal.returns-then-rows-eq0
-returns-then-rows-eq0 c = takes_done c.loop-words.invariant.taken c.if-rows-eq0.true
+pub returns-clause-value : goal.returns-clause-value
+returns-clause-value c = (taken_all c.loop-words.invariant c.in-None.ensures.steps.0).0
+
+pub returns-clause-rows : goal.returns-clause-rows
+returns-clause-rows c = (taken_all c.loop-words.invariant c.in-None.ensures.steps.0).1
