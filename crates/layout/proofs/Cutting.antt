@@ -35,10 +35,10 @@ pages_take ts rs a b e tokens_long rest_long =
     -- a paragraph's bytes end where those of the next begin, which is no further than where all end
     same_bytes : (k : ℕ) → k < get_or rs 4 0 → bytes_at (take a ts) (take b rs) k ≡ bytes_at ts rs k
     same_bytes k l =
-        let long : get_or (take b rs) (64 + 4 * k) 0 ≡ get_or rs (64 + 4 * k) 0 = get_or-take b rs (64 + 4 * k) 0 (omega (arith, n.paragraphs_within)) in
-        let begins : table_sum 64 k (take b rs) ≡ table_sum 64 k rs = table_sum_take 64 k b rs (omega (arith, n.paragraphs_within)) in
+        let long : get_or (take b rs) (64 + 4 * k) 0 ≡ get_or rs (64 + 4 * k) 0 = get_or-take b rs (64 + 4 * k) 0 (omega (arith, n.within.paragraphs)) in
+        let begins : table_sum 64 k (take b rs) ≡ table_sum 64 k rs = table_sum_take 64 k b rs (omega (arith, n.within.paragraphs)) in
         let ends : table_sum 64 k rs + get_or rs (64 + 4 * k) 0 ≤ a =
-        omega (arith, table_sum_more 64 k rs, table_sum_le 64 (k + 1) (get_or rs 4 0) rs (omega arith), n.bytes_add_up, n.bytes_within) in
+        omega (arith, table_sum_more 64 k rs, table_sum_le 64 (k + 1) (get_or rs 4 0) rs (omega arith), n.bytes_add_up, n.within.bytes) in
         ap₂ (λ (i j : ℕ). take i (drop j (take a ts))) long begins ∙ take_of_part (get_or rs (64 + 4 * k) 0) (table_sum 64 k rs) a ts ends
 
     each : (i : ℕ) → i < get_or (take b rs) 4 0 → get_or (paragraphs_at ts rs) i [] ≡ bytes_at (take a ts) (take b rs) (0 + i)

@@ -35,7 +35,7 @@ in_range ts rs e =
     let across : leb (get_or rs 10 0) 1000 ≡ true = (and_parts (leb 1 (get_or rs 10 0)) _ (and_parts (leb 1 (get_or rs 10 0) && leb (get_or rs 10 0) 1000) _ p.looks).0).1 in
     record {
       few = n.paragraphs_few;
-      within = n.paragraphs_within;
+      within = n.within.paragraphs;
       bulk = n.bulk_few;
       width = leb-true _ _ across;
       room = omega (arith, p.numbers_enough);
@@ -76,7 +76,7 @@ module _ (ts rs : List ℕ) (opened : is_open (length ts) rs ≡ true) where
     pub in_front : (k : Kept) → k ≡ kept_at rs → InFront ts front k
     in_front k e =
         let r = range in
-        let n = ap (λ (j : Kept). j.counts.paragraphs) e in
+        let n = ap (λ (j : Kept). j.paragraphs.entries) e in
         record {
           kept = e ∙ sym kept_in_front;
           long = omega (arith, n, long_front, r.within);

@@ -57,8 +57,8 @@ pub record LookedAt (ts rs : List ℕ) (k : Kept) : Type 0 where
 
 pub record InFront (ts front : List ℕ) (k : Kept) : Type 0 where
   pub kept : k ≡ kept_at front
-  pub long : 64 + 4 * k.counts.paragraphs ≤ length front
-  pub few : k.counts.paragraphs ≤ 4096
+  pub long : 64 + 4 * k.paragraphs.entries ≤ length front
+  pub few : k.paragraphs.entries ≤ 4096
   pub bulk : k.limits.bulk ≤ 4096
   pub width : k.looks.width ≤ 1000
   pub all : length (paragraphs_at ts front) ≤ 4096

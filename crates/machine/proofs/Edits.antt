@@ -72,8 +72,10 @@ module _ (l : Limits) (g : Looks) (ps olds qs news : List Tokens) where
     -- the limits let it through if they let the paragraphs through that there would be
     pub room_for :
         has_room e rs
-        ≡ ((leb (bulks news) l.bulk && leb (length (texts news)) l.paragraphs) && (leb (sizes (texts news)) l.tokens && leb (length (forms (texts news))) (2 * l.tokens)))
-    room_for = rw (paragraphs_after_edit, size_after_edit, bytes_after_edit, h.most_bulk, h.most_paragraphs, h.most_tokens) refl
+        ≡ (leb (bulks news) l.bulk
+        && ((leb (length (texts news)) l.paragraphs && leb 0 l.definitions) && (leb (sizes (texts news) + 0) l.tokens && (leb (length (forms (texts news))) (2 * l.tokens) && leb 0 (2 * l.tokens)))))
+    room_for =
+        rw (paragraphs_after_edit, size_after_edit, bytes_after_edit, h.most_bulk, h.most_paragraphs, h.most_tokens, h.most_definitions, h.definitions, h.defined_size, h.defined_bytes) refl
 
   edited_tokens_are :
       (n : ℕ) (rs : List ℕ) → Tells l g (texts olds) rs → length (forms (texts olds)) ≤ n → length (forms (texts news)) ≤ n →

@@ -55,8 +55,9 @@ fitting l ps e =
 -- with one paragraph for another, the four tests of room are those of the text's fit: bytes are at most two for a token
 pub fits_room :
     (l : Limits) (ps olds qs news : List Tokens) → length news ≤ 1 → fits l (plain (ps ++ (olds ++ qs))) ≡ true →
-    ((leb (bulks news) l.bulk && leb (length (ps ++ (news ++ qs))) l.paragraphs)
-    && (leb (sizes (ps ++ (news ++ qs))) l.tokens && leb (length (forms (ps ++ (news ++ qs)))) (2 * l.tokens)))
+    (leb (bulks news) l.bulk
+    && ((leb (length (ps ++ (news ++ qs))) l.paragraphs && leb 0 l.definitions)
+    && (leb (sizes (ps ++ (news ++ qs)) + 0) l.tokens && (leb (length (forms (ps ++ (news ++ qs)))) (2 * l.tokens) && leb 0 (2 * l.tokens)))))
     ≡ fits l (plain (ps ++ (news ++ qs)))
 unfolding def_sizes
 fits_room l ps olds qs news one e =
@@ -66,12 +67,12 @@ fits_room l ps olds qs news one e =
     let behind = and_parts (short_all b [] olds) (short_all b [] qs) (sym (short_append b [] olds qs) ∙ before.1) in
     let short : short_all b [] us ≡ (leb (bulks news) b && true) =
     short_append b [] ps (news ++ qs) ∙ rw (before.0, short_append b [] news qs, behind.1, short_one b news one) refl in
-    rw (short, add-zero (sizes us), le-leb 0 l.definitions (omega arith))
-    (same (leb (bulks news) b) (leb (length us) l.paragraphs) (leb (sizes us) l.tokens) _
-    (λ h. le-leb (length (forms us)) (2 * l.tokens) (omega (arith, length_forms us, leb-true (sizes us) l.tokens h))))
+    rw (short, le-leb 0 l.definitions (omega arith), le-leb 0 (2 * l.tokens) (omega arith))
+    (same (leb (bulks news) b) (leb (length us) l.paragraphs) (leb (sizes us + 0) l.tokens) _
+    (λ h. le-leb (length (forms us)) (2 * l.tokens) (omega (arith, length_forms us, leb-true (sizes us + 0) l.tokens h))))
   where
-    same : (x a s y : Bool) → (s ≡ true → y ≡ true) → ((x && a) && (s && y)) ≡ ((a && true) && (s && (x && true)))
-    same true true true y h = h refl
+    same : (x a s y : Bool) → (s ≡ true → y ≡ true) → (x && ((a && true) && (s && (y && true)))) ≡ ((a && true) && (s && (x && true)))
+    same true true true y h = ap (λ (t : Bool). t && true) (h refl)
     same true true false y h = refl
     same true false s y h = refl
     same false true true y h = refl

@@ -43,6 +43,9 @@ pub record Tells (l : Limits) (g : Looks) (ts : List Tokens) (rs : List ℕ) : T
   pub paragraphs : get_or rs 4 0 ≡ length ts
   pub size : get_or rs 5 0 ≡ sizes ts
   pub bytes : get_or rs 6 0 ≡ length (forms ts)
+  pub definitions : get_or rs 7 0 ≡ 0
+  pub defined_size : get_or rs 8 0 ≡ 0
+  pub defined_bytes : get_or rs 9 0 ≡ 0
   pub across : get_or rs 10 0 ≡ g.across
   pub rows : get_or rs 11 0 ≡ g.rows
   pub first_bytes : (ps qs : List Tokens) → ts ≡ ps ++ qs → table_sum 64 (length ps) rs ≡ length (forms ps)
@@ -67,6 +70,9 @@ tells l g ts rest =
       paragraphs = refl;
       size = refl;
       bytes = refl;
+      definitions = refl;
+      defined_size = refl;
+      defined_bytes = refl;
       across = refl;
       rows = refl;
       first_bytes = λ ps qs e.

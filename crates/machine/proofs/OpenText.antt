@@ -1,5 +1,5 @@
 -- Memory that holds a text which fits is an open book.
-use Rattle.std.proofs.Common.{◌≡◌, ℕ, ◌≤◌, true, List, [], ◌++◌, length, sym, arith}
+use Rattle.std.proofs.Common.{◌≡◌, ℕ, ◌+◌, ◌≤◌, true, List, [], ◌++◌, length, sym, refl, arith}
 use Rattle.std.proofs.lemmas.List.{append-nil, length-append, length-replicate}
 use Rattle.std.proofs.lemmas.Bool.{le-leb, and_from, eq-eqb}
 use Rattle.meaning.specs.Text.{Tokens}
@@ -7,8 +7,9 @@ use Rattle.meaning.specs.Calls.{Limits, sizes}
 use Rattle.meaning.specs.Pages.{Looks}
 use Rattle.meaning.specs.Promise.{GoodLooks, GoodLimits}
 use Rattle.store.specs.Opened.{tokens_asked, kept_asked, words_asked, rest_asked, rest_of}
-use Rattle.store.specs.Kept.{table_kept, is_open}
-use Rattle.store.proofs.Looking.{open_from_parts}
+use Rattle.store.specs.Kept.{limits_at, counts_at, definitions_at, first_definition, table_kept, is_open}
+use Rattle.store.proofs.Looking.{open_from_parts, within_from_parts}
+use Rattle.store.proofs.Tables.{table_sum_zero}
 use Rattle.machine.proofs.Splices.{length_padded}
 use Rattle.machine.proofs.Rows.{forms, entries, length_entries, length_forms}
 use Rattle.machine.proofs.Memories.{header_for, memory, length_header_at, Tells, rest_tells}
@@ -33,8 +34,8 @@ module _ (l : Limits) (g : Looks) (ps : List Tokens) (few : Fitting l ps) where
   pub told_open : (bytes : ℕ) (rs : List ℕ) → Tells l g ps rs → tokens_asked l ≤ bytes → rest_asked l ≤ length rs → GoodLooks g → GoodLimits l → is_open bytes rs ≡ true
   told_open bytes rs h enough enough_numbers good small =
       let tables : table_kept rs ≡ true =
-      rw (h.paragraphs, h.bytes, h.size)
-      (and_from _ _ (eq-eqb _ _ (h.first_bytes ps [] (sym (append-nil ps)))) (eq-eqb _ _ (h.first_sizes ps [] (sym (append-nil ps))))) in
+      rw (h.paragraphs, h.bytes, h.size, h.definitions, h.defined_size, h.defined_bytes, table_sum_zero (first_definition rs) rs, table_sum_zero (first_definition rs + 1) rs)
+      (and_from _ true (and_from _ _ (eq-eqb _ _ (h.first_bytes ps [] (sym (append-nil ps)))) (eq-eqb _ _ (h.first_sizes ps [] (sym (append-nil ps))))) refl) in
       open_from_parts bytes rs (record {
         limits =
             rw (h.most_paragraphs, h.most_tokens, h.most_definitions, h.most_bulk)
@@ -46,8 +47,13 @@ module _ (l : Limits) (g : Looks) (ps : List Tokens) (few : Fitting l ps) where
             (and_from _ _ (and_from _ _ (le-leb _ _ good.across_enough.0) (le-leb _ _ good.across_enough.1))
             (and_from _ _ (le-leb _ _ good.rows_enough.0) (le-leb _ _ good.rows_enough.1)));
         counts =
-            rw (h.paragraphs, h.size, h.bytes, h.most_paragraphs, h.most_tokens)
-            (and_from _ _ (le-leb _ _ few.paragraphs_few) (and_from _ _ (le-leb _ _ few.tokens_few) (le-leb _ _ (omega (arith, length_forms ps, few.tokens_few)))));
+            within_from_parts (counts_at rs) (definitions_at rs) (limits_at rs) (record {
+              paragraphs = omega (arith, h.paragraphs, h.most_paragraphs, few.paragraphs_few);
+              definitions = omega (arith, h.definitions);
+              sizes = omega (arith, h.size, h.defined_size, h.most_tokens, few.tokens_few);
+              bytes = omega (arith, h.bytes, h.most_tokens, length_forms ps, few.tokens_few);
+              defined_bytes = omega (arith, h.defined_bytes);
+            });
         table = tables;
       })
 

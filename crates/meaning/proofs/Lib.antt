@@ -2,6 +2,7 @@ pub mod Picks
 pub mod Below
 pub mod Forms
 pub mod Bulks
+pub mod Sizes
 pub mod Widths
 pub mod Best
 pub mod BestOfAll

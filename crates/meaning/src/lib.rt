@@ -2,6 +2,7 @@
 #![tactic(auto)]
 
 ghost use Rattle.meaning.specs.Promise.{OneReading, BestOfAll, SticksOut, LettersKept, PageByPage, NumbersRight, AtRest, EachByItself, TurnedAway, OnlyAsked};
+ghost use Rattle.meaning.specs.Sizes.{CountsRight};
 ghost use Rattle.meaning.specs.Examples.{Examples};
 
 // The form of a text is read in one way only.
@@ -57,4 +58,9 @@ pub fn only_asked()
 // Small texts have the pages that are written out for them, and filling line after line is not always best.
 pub fn examples()
     ensures { Examples }
+{}
+
+// How much a paragraph would be is counted without writing it out, and whether that is past a limit by numbers that stop there.
+pub fn counts_right()
+    ensures { CountsRight }
 {}

@@ -7,9 +7,9 @@ use Rattle.wire.specs.Bytes.{over}
 use Rattle.wire.specs.declared.refusal.Refusal.{Refusal}
 use Rattle.wire.specs.declared.refusal.Refusal.TheVariants.{BadOpening, NoParagraph, TooMuch}
 use Rattle.store.specs.Opened.{tokens_asked, kept_asked, words_asked, rest_asked, rest_of}
-use Rattle.store.specs.Kept.{kept_at, table_sum, is_open}
-use Rattle.store.specs.Changes.{spliced, Edit, has_room, bytes_gone, paragraphs_after, size_after, bytes_after, entry_of, editing, edited_tokens, edited_rest}
-use Rattle.store.proofs.Looking.{OpenParts, open_parts, open_take}
+use Rattle.store.specs.Kept.{kept_at, limits_at, definitions_at, table_sum, is_open}
+use Rattle.store.specs.Changes.{spliced, Edit, has_room, counts_after, bytes_gone, paragraphs_after, size_after, bytes_after, entry_of, editing, edited_tokens, edited_rest}
+use Rattle.store.proofs.Looking.{OpenParts, open_parts, open_take, within_parts}
 use Rattle.store.proofs.Makes.{NumbersOf, numbers_at, within_all}
 use Rattle.std.proofs.Math.Seq.{take-add}
 use Rattle.store.proofs.Tables.{table_sum_take}
@@ -78,10 +78,10 @@ module _ (ts rs : List ℕ) (open_book : is_open (length ts) rs ≡ true) where
   at_kept i h = get_or-take (kept_asked (limits_in rs)) rs i 0 (omega arith)
 
   sum_whole : (first k : ℕ) → first < 66 → k ≤ get_or rs 4 0 → table_sum first k (rest_of (memory_in ts rs)) ≡ table_sum first k rs
-  sum_whole first k h l = ap (table_sum first k) whole ∙ table_sum_take first k (rest_asked (limits_in rs)) rs (omega (arith, numbers.paragraphs_within))
+  sum_whole first k h l = ap (table_sum first k) whole ∙ table_sum_take first k (rest_asked (limits_in rs)) rs (omega (arith, numbers.within.paragraphs))
 
   sum_kept : (first k : ℕ) → first < 66 → k ≤ get_or rs 4 0 → table_sum first k (memory_in ts rs).kept ≡ table_sum first k rs
-  sum_kept first k h l = table_sum_take first k (kept_asked (limits_in rs)) rs (omega (arith, numbers.paragraphs_within))
+  sum_kept first k h l = table_sum_take first k (kept_asked (limits_in rs)) rs (omega (arith, numbers.within.paragraphs))
 
   -- an edit is allowed in the one where it is in the other
   editing_there : (e : Edit) → e.at + e.gone ≤ get_or rs 4 0 → has_room e (rest_of (memory_in ts rs)) ≡ has_room e rs
@@ -90,7 +90,7 @@ module _ (ts rs : List ℕ) (open_book : is_open (length ts) rs ≡ true) where
       let some = sum_whole 64 e.at (lit< tt) (omega arith) in
       let all_size = sum_whole 65 (e.at + e.gone) (lit< tt) h in
       let some_size = sum_whole 65 e.at (lit< tt) (omega arith) in
-      rw (at_whole 0 (lit< tt), at_whole 1 (lit< tt), at_whole 3 (lit< tt), at_whole 4 (lit< tt), at_whole 5 (lit< tt), at_whole 6 (lit< tt), all, some, all_size, some_size) refl
+      rw (at_whole 0 (lit< tt), at_whole 1 (lit< tt), at_whole 2 (lit< tt), at_whole 3 (lit< tt), at_whole 4 (lit< tt), at_whole 5 (lit< tt), at_whole 6 (lit< tt), at_whole 7 (lit< tt), at_whole 8 (lit< tt), at_whole 9 (lit< tt), all, some, all_size, some_size) refl
 
   pub editing_cut : (e : Edit) → editing e (length (memory_in ts rs).tokens) (rest_of (memory_in ts rs)) ≡ editing e (length ts) rs
   editing_cut e =
@@ -105,8 +105,8 @@ module _ (ts rs : List ℕ) (open_book : is_open (length ts) rs ≡ true) where
   module _ (e : Edit) (there : e.at + e.gone ≤ get_or rs 4 0) (room : has_room e rs ≡ true) where
     roomy : (paragraphs_after e rs ≤ get_or rs 0 0) × (bytes_after e rs ≤ 2 * get_or rs 1 0)
     roomy =
-        let a = and_parts (leb e.bulk (get_or rs 3 0) && leb (paragraphs_after e rs) (get_or rs 0 0)) _ room in
-        (leb-true _ _ (and_parts (leb e.bulk (get_or rs 3 0)) _ a.0).1, leb-true _ _ (and_parts (leb (size_after e rs) (get_or rs 1 0)) _ a.1).1)
+        let w = within_parts (counts_after e rs) (definitions_at rs) (limits_at rs) (and_parts (leb e.bulk (get_or rs 3 0)) _ room).1 in
+        (w.paragraphs, w.bytes)
 
     edited_cut : edited_tokens e (take (tokens_asked (limits_in rs)) ts) (memory_in ts rs).kept ≡ edited_tokens e (take (tokens_asked (limits_in rs)) ts) rs
     unfolding edited_tokens
@@ -115,7 +115,7 @@ module _ (ts rs : List ℕ) (open_book : is_open (length ts) rs ≡ true) where
     tokens_bound : table_sum 64 e.at rs + max (bytes_gone e rs) (length e.bytes) + (get_or rs 6 0 - table_sum 64 (e.at + e.gone) rs) ≤ length (take (tokens_asked (limits_in rs)) ts)
     tokens_bound =
         let w = within_all 64 e.at e.gone (get_or rs 4 0) (get_or rs 6 0) rs numbers.bytes_add_up there in
-        omega (arith, roomy.1, numbers.bytes_within, length-take-le (tokens_asked (limits_in rs)) ts parts.bytes_enough)
+        omega (arith, roomy.1, numbers.within.bytes, length-take-le (tokens_asked (limits_in rs)) ts parts.bytes_enough)
 
     pub tokens_cut : over (edited_tokens e (memory_in ts rs).tokens (memory_in ts rs).kept) ts ≡ edited_tokens e ts rs
     unfolding edited_tokens
@@ -133,7 +133,7 @@ module _ (ts rs : List ℕ) (open_book : is_open (length ts) rs ≡ true) where
 
       table_bound : 64 + 4 * e.at + max (4 * e.gone) (length (entry_of e)) + 4 * (get_or rs 4 0 - (e.at + e.gone)) ≤ length (take (kept_asked (limits_in rs)) rs)
       table_bound =
-          omega (arith, entry_long, roomy.0, numbers.paragraphs_within, numbers.rest_long, length-take-le (kept_asked (limits_in rs)) rs (omega (arith, numbers.rest_long)))
+          omega (arith, entry_long, roomy.0, numbers.within.paragraphs, numbers.rest_long, length-take-le (kept_asked (limits_in rs)) rs (omega (arith, numbers.rest_long)))
 
       -- the three counts, over the table
       counted : List ℕ → List ℕ

@@ -76,7 +76,7 @@ paragraph_from first (suc n) (suc k) ts rs h l =
 -- those of an open book
 module _ (ts rs : List ℕ) (opened : is_open (length ts) rs ≡ true) where
   book_long : table_sum 64 (get_or rs 4 0) rs ≤ length ts
-  book_long = let n = numbers_at ts rs opened in omega (arith, n.bytes_add_up, n.bytes_within, n.bytes_long)
+  book_long = let n = numbers_at ts rs opened in omega (arith, n.bytes_add_up, n.within.bytes, n.bytes_long)
 
   pub length_of_book : length (paragraphs_in ts (entries_at rs)) ≡ get_or rs 4 0
   unfolding entries_at

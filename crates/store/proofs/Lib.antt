@@ -6,3 +6,6 @@ pub mod Headers
 pub mod Makes
 pub mod Packing
 pub mod Cutting
+pub mod Lasts
+pub mod Defines
+pub mod DefinitionsCut

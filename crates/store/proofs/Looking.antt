@@ -7,11 +7,12 @@ use Rattle.std.proofs.lemmas.Bool.{lt-leb, le-leb, leb-true, eq-eqb, ne_eqb, and
 use Rattle.meaning.specs.Text.{pick}
 use Rattle.meaning.proofs.Picks.{some_picked}
 use Rattle.store.specs.Opened.{limits_of, tokens_asked, rest_asked}
-use Rattle.store.specs.Kept.{limits_at, limits_kept, kept_at, looks_kept, counts_kept, table_kept, table_sum, long_enough, entries_at, bytes_of, unpacked, widths_at, is_open}
-use Rattle.store.specs.Counted.{largest, counts_in, counts_within, OpenBook}
+use Rattle.store.specs.Kept.{limits_at, limits_kept, kept_at, looks_kept, counts_kept, table_kept, table_sum, long_enough, entries_at, first_definition, counts_at, definitions_at, counts_within, adds_up, bytes_of, unpacked, widths_at, is_open}
+use Rattle.store.specs.Counted.{largest, counts_in, OpenBook}
 use Rattle.store.specs.declared.kept.Counts.{Counts}
 use Rattle.store.specs.declared.kept.Kept.{Kept}
-use Rattle.store.proofs.Tables.{table_sum_take, length_entries, sum_entries}
+use Rattle.store.specs.declared.opening.Limits.{Limits}
+use Rattle.store.proofs.Tables.{table_sum_take, length_table, length_entries, sum_of_entries}
 
 module _ (bytes : ℕ) (rs : List ℕ) where
   limits_fail : limits_kept rs ≡ false → is_open bytes rs ≡ false
@@ -75,8 +76,32 @@ open_from_parts bytes rs p =
     and_from _ _ p.limits
     (and_from _ _ (and_from _ _ (le-leb _ _ p.bytes_enough) (le-leb _ _ p.numbers_enough)) (and_from _ _ p.looks (and_from _ _ p.counts p.table)))
 
-paragraphs_within : (rs : List ℕ) → counts_kept rs ≡ true → get_or rs 4 0 ≤ get_or rs 0 0
-paragraphs_within rs e = leb-true _ _ (and_parts (leb (get_or rs 4 0) (get_or rs 0 0)) _ e).0
+-- so many paragraphs and definitions are within limits
+pub record Within (p d : Counts) (l : Limits) : Type 0 where
+  pub paragraphs : p.entries ≤ l.paragraphs
+  pub definitions : d.entries ≤ l.definitions
+  pub sizes : p.size + d.size ≤ l.tokens
+  pub bytes : p.bytes ≤ 2 * l.tokens
+  pub defined_bytes : d.bytes ≤ 2 * l.tokens
+
+pub within_parts : (p d : Counts) (l : Limits) → counts_within p d l ≡ true → Within p d l
+within_parts p d l e =
+    let halves = and_parts (leb p.entries l.paragraphs && leb d.entries l.definitions) _ e in
+    let entries = and_parts (leb p.entries l.paragraphs) _ halves.0 in
+    let rest = and_parts (leb (p.size + d.size) l.tokens) _ halves.1 in
+    let bytes = and_parts (leb p.bytes (2 * l.tokens)) _ rest.1 in
+    record {
+      paragraphs = leb-true _ _ entries.0;
+      definitions = leb-true _ _ entries.1;
+      sizes = leb-true _ _ rest.0;
+      bytes = leb-true _ _ bytes.0;
+      defined_bytes = leb-true _ _ bytes.1;
+    }
+
+pub within_from_parts : (p d : Counts) (l : Limits) → Within p d l → counts_within p d l ≡ true
+within_from_parts p d l w =
+    and_from _ _ (and_from _ _ (le-leb _ _ w.paragraphs) (le-leb _ _ w.definitions))
+    (and_from _ _ (le-leb _ _ w.sizes) (and_from _ _ (le-leb _ _ w.bytes) (le-leb _ _ w.defined_bytes)))
 
 -- the same twelve numbers are the same widths
 pub unpacked_same : (f g : ℕ → ℕ) → ((i : ℕ) → i < 12 → f i ≡ g i) → unpacked f ≡ unpacked g
@@ -97,7 +122,8 @@ module _ (xs rs : List ℕ) (at : (i : ℕ) → i < 64 → get_or xs i 0 ≡ get
   looks_kept_same = rw (at 10 (lit< tt), at 11 (lit< tt)) refl
 
   pub counts_kept_same : counts_kept xs ≡ counts_kept rs
-  counts_kept_same = rw (at 4 (lit< tt), at 0 (lit< tt), at 5 (lit< tt), at 1 (lit< tt), at 6 (lit< tt)) refl
+  counts_kept_same =
+      rw (at 0 (lit< tt), at 1 (lit< tt), at 2 (lit< tt), at 4 (lit< tt), at 5 (lit< tt), at 6 (lit< tt), at 7 (lit< tt), at 8 (lit< tt), at 9 (lit< tt)) refl
 
   pub widths_same : widths_at xs ≡ widths_at rs
   widths_same = unpacked_same (λ i. get_or xs (12 + i) 0) (λ i. get_or rs (12 + i) 0) (λ i h. at (12 + i) (omega arith))
@@ -107,16 +133,23 @@ module _ (xs rs : List ℕ) (at : (i : ℕ) → i < 64 → get_or xs i 0 ≡ get
       let at_4 = at 4 (lit< tt) in
       let at_5 = at 5 (lit< tt) in
       let at_6 = at 6 (lit< tt) in
+      let at_7 = at 7 (lit< tt) in
+      let at_8 = at 8 (lit< tt) in
+      let at_9 = at 9 (lit< tt) in
       let at_10 = at 10 (lit< tt) in
       let at_11 = at 11 (lit< tt) in
       λ i. record {
         limits = limits_same i;
         looks = record { widths = widths_same i; width = at_10 i; rows = at_11 i };
-        counts = record { paragraphs = at_4 i; size = at_5 i; bytes = at_6 i };
+        paragraphs = record { entries = at_4 i; size = at_5 i; bytes = at_6 i };
+        definitions = record { entries = at_7 i; size = at_8 i; bytes = at_9 i };
       }
 
-  pub table_kept_same : ((first : ℕ) → first < 66 → table_sum first (get_or rs 4 0) xs ≡ table_sum first (get_or rs 4 0) rs) → table_kept xs ≡ table_kept rs
-  table_kept_same sums = rw (at 4 (lit< tt), at 6 (lit< tt), at 5 (lit< tt), sums 64 (lit< tt), sums 65 (lit< tt)) refl
+  pub table_kept_same :
+      ((first n : ℕ) → first + 4 * n ≤ first_definition rs + 4 * get_or rs 7 0 + 1 → table_sum first n xs ≡ table_sum first n rs) → get_or rs 4 0 ≤ get_or rs 0 0 → table_kept xs ≡ table_kept rs
+  table_kept_same sums few =
+      rw (at 0 (lit< tt), at 4 (lit< tt), at 5 (lit< tt), at 6 (lit< tt), at 7 (lit< tt), at 8 (lit< tt), at 9 (lit< tt))
+      (rw (sums 64 (get_or rs 4 0) (omega arith), sums 65 (get_or rs 4 0) (omega arith), sums (first_definition rs) (get_or rs 7 0) (omega arith), sums (first_definition rs + 1) (get_or rs 7 0) (omega arith)) refl)
 
 -- a book is open in just what its limits ask for
 pub open_take :
@@ -129,8 +162,11 @@ open_take bytes rs b k e h f = open_from_parts b (take k rs) parts
     at : (i : ℕ) → i < 64 → get_or (take k rs) i 0 ≡ get_or rs i 0
     at i l = get_or-take k rs i 0 (omega arith)
 
-    sums : (first : ℕ) → first < 66 → table_sum first (get_or rs 4 0) (take k rs) ≡ table_sum first (get_or rs 4 0) rs
-    sums first l = table_sum_take first (get_or rs 4 0) k rs (omega (arith, paragraphs_within rs p.counts))
+    few : Within (counts_at rs) (definitions_at rs) (limits_at rs)
+    few = within_parts (counts_at rs) (definitions_at rs) (limits_at rs) p.counts
+
+    sums : (first n : ℕ) → first + 4 * n ≤ first_definition rs + 4 * get_or rs 7 0 + 1 → table_sum first n (take k rs) ≡ table_sum first n rs
+    sums first n l = table_sum_take first n k rs (omega (arith, few.definitions))
 
     long : rest_asked (limits_of (limits_at rs)) ≤ length (take k rs)
     long = omega (arith, length-take-le k rs (omega (arith, p.numbers_enough)))
@@ -143,7 +179,7 @@ open_take bytes rs b k e h f = open_from_parts b (take k rs) parts
           numbers_enough = subst (λ l. rest_asked (limits_of l) ≤ length (take k rs)) (sym (limits_same (take k rs) rs at)) long;
           looks = looks_kept_same (take k rs) rs at ∙ p.looks;
           counts = counts_kept_same (take k rs) rs at ∙ p.counts;
-          table = table_kept_same (take k rs) rs at sums ∙ p.table;
+          table = table_kept_same (take k rs) rs at sums few.paragraphs ∙ p.table;
         }
 
 -- a sum that is too large to tell is no count
@@ -156,7 +192,7 @@ min_eqb x s h =
 
 -- as a derived `==` compares them
 abbrev pub equal_counts : Counts → Counts → Bool
-equal_counts a b = eqb a.paragraphs b.paragraphs && (eqb a.size b.size && eqb a.bytes b.bytes)
+equal_counts a b = eqb a.entries b.entries && (eqb a.size b.size && eqb a.bytes b.bytes)
 
 and_turned : (a b : Bool) → (a && b) ≡ (b && a)
 and_turned true true = refl
@@ -193,52 +229,73 @@ module _ (ts : List ℕ) {rs : List ℕ} {k : Kept} (header : HeaderRead rs k) w
   too_short (inl h) = tokens_short (length ts) rs (subst (λ j. length ts < tokens_asked (limits_of j.limits)) header.same h)
   too_short (inr h) = rest_short (length ts) rs (subst (λ j. length rs < rest_asked (limits_of j.limits)) header.same h)
 
-  pub too_many : false ≡ counts_within k.counts k.limits → is_open (length ts) rs ≡ false
-  too_many e = counts_fail (length ts) rs (ap (λ j. counts_within j.counts j.limits) (sym header.same) ∙ sym e)
+  pub too_many : false ≡ counts_within k.paragraphs k.definitions k.limits → is_open (length ts) rs ≡ false
+  too_many e = counts_fail (length ts) rs (ap (λ j. counts_within j.paragraphs j.definitions j.limits) (sym header.same) ∙ sym e)
 
-  module _ (within : true ≡ counts_within k.counts k.limits) where
+  module _ (within : true ≡ counts_within k.paragraphs k.definitions k.limits) where
     counts : counts_kept rs ≡ true
-    counts = ap (λ j. counts_within j.counts j.limits) (sym header.same) ∙ sym within
+    counts = ap (λ j. counts_within j.paragraphs j.definitions j.limits) (sym header.same) ∙ sym within
 
-    module _ {es : List (List ℕ)} {n : Counts} (behind : es ≡ first_chunks 4 k.counts.paragraphs (drop 64 rs)) (counted : n ≡ counts_in es) where
-      entries : es ≡ entries_at rs
-      unfolding entries_at
-      entries = behind ∙ ap (λ j. first_chunks 4 j.counts.paragraphs (drop 64 rs)) header.same
+    few_tokens : get_or rs 1 0 ≤ 65536
+    few_tokens =
+        let limits = and_parts (leb (get_or rs 0 0) 4096) _ header.limits in
+        leb-true (get_or rs 1 0) 65536 (and_parts (leb (get_or rs 1 0) 65536) _ limits.1).0
 
-      table_told : equal_counts n k.counts ≡ table_kept rs
-      table_told =
-          let limits = and_parts (leb (get_or rs 0 0) 4096) _ header.limits in
-          let tokens = and_parts (leb (get_or rs 1 0) 65536) _ limits.1 in
-          let few = leb-true (get_or rs 1 0) 65536 tokens.0 in
-          let c₀ = and_parts (leb (get_or rs 4 0) (get_or rs 0 0)) _ counts in
-          let c₁ = and_parts (leb (get_or rs 5 0) (get_or rs 1 0)) (leb (get_or rs 6 0) (2 * get_or rs 1 0)) c₀.1 in
-          let sizes_few = leb-true (get_or rs 5 0) (get_or rs 1 0) c₁.0 in
-          let bytes_few = leb-true (get_or rs 6 0) (2 * get_or rs 1 0) c₁.1 in
-          let all : eqb (length es) (get_or rs 4 0) ≡ true = eq-eqb _ _ (ap length entries ∙ length_entries rs) in
-          let sizes : eqb (counts_in es).size (get_or rs 5 0) ≡ eqb (table_sum 65 (get_or rs 4 0) rs) (get_or rs 5 0) =
-          min_eqb _ _ (omega arith) ∙ ap (λ m. eqb m (get_or rs 5 0)) (ap (sum_by (λ e. get_or e 1 0)) entries ∙ sum_entries 1 rs (lit< tt)) in
-          let lengths : eqb (counts_in es).bytes (get_or rs 6 0) ≡ eqb (table_sum 64 (get_or rs 4 0) rs) (get_or rs 6 0) =
-          min_eqb _ _ (omega arith) ∙ ap (λ m. eqb m (get_or rs 6 0)) (ap (sum_by (λ e. get_or e 0 0)) entries ∙ sum_entries 0 rs (lit< tt)) in
-          ap₂ equal_counts counted (ap (λ j. j.counts) header.same)
-          ∙ (ap₂ ◌&&◌ all (ap₂ ◌&&◌ sizes lengths)
-          ∙ and_turned (eqb (table_sum 65 (get_or rs 4 0) rs) (get_or rs 5 0)) (eqb (table_sum 64 (get_or rs 4 0) rs) (get_or rs 6 0)))
+    entries_told : {es : List (List ℕ)} → es ≡ first_chunks 4 k.paragraphs.entries (drop 64 rs) → es ≡ entries_at rs
+    unfolding entries_at
+    entries_told behind = behind ∙ ap (λ j. first_chunks 4 j.paragraphs.entries (drop 64 rs)) header.same
 
-      pub table_off : true ≡ not (equal_counts n k.counts) → is_open (length ts) rs ≡ false
-      table_off e = table_fails (length ts) rs (sym table_told ∙ not-true (equal_counts n k.counts) (sym e))
+    -- entries whose counts could be told
+    table_told :
+        (first : ℕ) (n : Counts) {es : List (List ℕ)} {m : Counts} → n.size < largest → n.bytes < largest → es ≡ first_chunks 4 n.entries (drop first rs) → m ≡ counts_in es →
+        equal_counts m n ≡ adds_up first n rs
+    table_told first n {es} few few_bytes cut counted =
+        let all : eqb (length es) n.entries ≡ true = eq-eqb _ _ (ap length cut ∙ length_table first n.entries rs) in
+        let sizes : eqb (counts_in es).size n.size ≡ eqb (table_sum (first + 1) n.entries rs) n.size =
+        min_eqb _ _ few ∙ ap (λ m. eqb m n.size) (ap (sum_by (λ e. get_or e 1 0)) cut ∙ sum_of_entries first 1 n.entries rs (lit< tt)) in
+        let lengths : eqb (counts_in es).bytes n.bytes ≡ eqb (table_sum first n.entries rs) n.bytes =
+        min_eqb _ _ few_bytes ∙ ap (λ m. eqb m n.bytes) (ap (sum_by (λ e. get_or e 0 0)) cut ∙ (sum_of_entries first 0 n.entries rs (lit< tt) ∙ ap (λ j. table_sum j n.entries rs) (omega arith))) in
+        ap (λ m. equal_counts m n) counted
+        ∙ (ap₂ ◌&&◌ all (ap₂ ◌&&◌ sizes lengths) ∙ and_turned (eqb (table_sum (first + 1) n.entries rs) n.size) (eqb (table_sum first n.entries rs) n.bytes))
 
-      pub judged : tokens_asked (limits_of k.limits) ≤ length ts → rest_asked (limits_of k.limits) ≤ length rs → false ≡ not (equal_counts n k.counts) → OpenBook ts rs k es
-      judged a b e =
-          record {
-            opened =
-                open_from_parts (length ts) rs (record {
-                  limits = header.limits;
-                  bytes_enough = subst (λ j. tokens_asked (limits_of j.limits) ≤ length ts) header.same a;
-                  numbers_enough = subst (λ j. rest_asked (limits_of j.limits) ≤ length rs) header.same b;
-                  looks = header.looks;
-                  counts = counts;
-                  table = sym table_told ∙ not-false (equal_counts n k.counts) (sym e);
-                });
-            same = header.same;
-            entries = entries;
-            long = ap length entries ∙ (length_entries rs ∙ sym (ap (λ j. j.counts.paragraphs) header.same));
-          }
+    module _ {es : List (List ℕ)} {n : Counts} (behind : es ≡ first_chunks 4 k.paragraphs.entries (drop 64 rs)) (counted : n ≡ counts_in es) where
+      paragraphs_told : equal_counts n k.paragraphs ≡ adds_up 64 (counts_at rs) rs
+      paragraphs_told =
+          let w = within_parts (counts_at rs) (definitions_at rs) (limits_at rs) counts in
+          ap (λ j. equal_counts n j.paragraphs) header.same
+          ∙ table_told 64 (counts_at rs) (omega (arith, few_tokens, w.sizes)) (omega (arith, few_tokens, w.bytes)) (behind ∙ ap (λ j. first_chunks 4 j.paragraphs.entries (drop 64 rs)) header.same) counted
+
+      pub table_off : true ≡ not (equal_counts n k.paragraphs) → is_open (length ts) rs ≡ false
+      table_off e = table_fails (length ts) rs (and_left _ _ (sym paragraphs_told ∙ not-true (equal_counts n k.paragraphs) (sym e)))
+
+      module _ {ds : List (List ℕ)} {m : Counts} (defined : ds ≡ first_chunks 4 k.definitions.entries (drop (64 + 4 * k.limits.paragraphs) rs)) (defined_counted : m ≡ counts_in ds) where
+        definitions_told : equal_counts m k.definitions ≡ adds_up (first_definition rs) (definitions_at rs) rs
+        definitions_told =
+            let w = within_parts (counts_at rs) (definitions_at rs) (limits_at rs) counts in
+            ap (λ j. equal_counts m j.definitions) header.same
+            ∙ table_told (first_definition rs) (definitions_at rs) (omega (arith, few_tokens, w.sizes)) (omega (arith, few_tokens, w.defined_bytes))
+            (defined ∙ ap (λ j. first_chunks 4 j.definitions.entries (drop (64 + 4 * j.limits.paragraphs) rs)) header.same) defined_counted
+
+        pub definitions_off : true ≡ not (equal_counts m k.definitions) → is_open (length ts) rs ≡ false
+        definitions_off e = table_fails (length ts) rs (and_right _ _ (sym definitions_told ∙ not-true (equal_counts m k.definitions) (sym e)))
+
+        pub judged :
+            tokens_asked (limits_of k.limits) ≤ length ts → rest_asked (limits_of k.limits) ≤ length rs → false ≡ not (equal_counts n k.paragraphs) → false ≡ not (equal_counts m k.definitions) → OpenBook ts rs k es
+        judged a b e f =
+            let entries : es ≡ entries_at rs = entries_told behind in
+            record {
+              opened =
+                  open_from_parts (length ts) rs (record {
+                    limits = header.limits;
+                    bytes_enough = subst (λ j. tokens_asked (limits_of j.limits) ≤ length ts) header.same a;
+                    numbers_enough = subst (λ j. rest_asked (limits_of j.limits) ≤ length rs) header.same b;
+                    looks = header.looks;
+                    counts = counts;
+                    table =
+                        and_from _ _ (sym paragraphs_told ∙ not-false (equal_counts n k.paragraphs) (sym e))
+                        (sym definitions_told ∙ not-false (equal_counts m k.definitions) (sym f));
+                  });
+              same = header.same;
+              entries = entries;
+              long = ap length entries ∙ (length_entries rs ∙ sym (ap (λ j. j.paragraphs.entries) header.same));
+            }

@@ -8,9 +8,9 @@ use Rattle.std.proofs.lemmas.Bool.{le-leb, leb-true, eqb-true, and_parts, and_fr
 use Rattle.meaning.proofs.Picks.{pick_true}
 use Rattle.wire.specs.declared.refusal.Refusal.{Refusal}
 use Rattle.wire.specs.declared.refusal.Refusal.TheVariants.{BadOpening, NoParagraph, TooMuch}
-use Rattle.store.specs.Kept.{kept_at, table_sum, entries_at, is_open}
-use Rattle.store.specs.Counted.{largest, counts_in, counts_within, OpenBook}
-use Rattle.store.specs.Changes.{spliced, Edit, entry_of, has_room, paragraphs_after, size_after, bytes_after, edited_tokens, edited_rest, Changes}
+use Rattle.store.specs.Kept.{kept_at, definitions_at, first_definition, limits_at, counts_within, table_sum, entries_at, is_open}
+use Rattle.store.specs.Counted.{largest, counts_in, OpenBook}
+use Rattle.store.specs.Changes.{spliced, Edit, entry_of, has_room, counts_after, paragraphs_after, size_after, bytes_after, edited_tokens, edited_rest, Changes}
 use Rattle.store.specs.Edits.{edit_by, replacement_by, bytes_in, counts_in_content, entry_with, edit_in, Replaces}
 use Rattle.store.specs.Splices.{replaced}
 use Rattle.store.specs.declared.changes.Content.{Content}
@@ -20,7 +20,7 @@ use Rattle.store.specs.declared.changes.Replacement.{Replacement}
 use Rattle.store.specs.declared.kept.Counts.{Counts}
 use Rattle.store.specs.declared.kept.Kept.{Kept}
 use Rattle.store.specs.declared.opening.Limits.{Limits}
-use Rattle.store.proofs.Looking.{open_parts}
+use Rattle.store.proofs.Looking.{open_parts, Within as WithinLimits, within_parts}
 use Rattle.store.proofs.Tables.{table_sum_le, length_entries, sum_front, sum_part}
 
 pub record NumbersOf (ts rs : List ℕ) (k : Kept) : Type 0 where
@@ -28,12 +28,13 @@ pub record NumbersOf (ts rs : List ℕ) (k : Kept) : Type 0 where
   pub tokens_few : k.limits.tokens ≤ 65536
   pub bulk_few : k.limits.bulk ≤ 4096
   pub bytes_long : 4 * k.limits.tokens ≤ length ts
-  pub rest_long : 4096 + 8 * k.limits.paragraphs ≤ length rs
-  pub paragraphs_within : k.counts.paragraphs ≤ k.limits.paragraphs
-  pub size_within : k.counts.size ≤ k.limits.tokens
-  pub bytes_within : k.counts.bytes ≤ 2 * k.limits.tokens
-  pub bytes_add_up : table_sum 64 k.counts.paragraphs rs ≡ k.counts.bytes
-  pub sizes_add_up : table_sum 65 k.counts.paragraphs rs ≡ k.counts.size
+  pub rest_long : 4096 + 8 * (k.limits.paragraphs + k.limits.definitions) ≤ length rs
+  pub definitions_few : k.limits.definitions ≤ 1024
+  pub within : WithinLimits k.paragraphs k.definitions k.limits
+  pub bytes_add_up : table_sum 64 k.paragraphs.entries rs ≡ k.paragraphs.bytes
+  pub sizes_add_up : table_sum 65 k.paragraphs.entries rs ≡ k.paragraphs.size
+  pub defined_bytes_add_up : table_sum (64 + 4 * k.limits.paragraphs) k.definitions.entries rs ≡ k.definitions.bytes
+  pub defined_sizes_add_up : table_sum (64 + 4 * k.limits.paragraphs + 1) k.definitions.entries rs ≡ k.definitions.size
 
 pub numbers_at : (ts rs : List ℕ) → is_open (length ts) rs ≡ true → NumbersOf ts rs (kept_at rs)
 numbers_at ts rs e =
@@ -41,23 +42,24 @@ numbers_at ts rs e =
     let l₀ = and_parts _ _ p.limits in
     let l₁ = and_parts _ _ l₀.1 in
     let l₂ = and_parts _ _ l₁.1 in
-    let c₀ = and_parts _ _ p.counts in
-    let c₁ = and_parts _ _ c₀.1 in
-    let t = and_parts _ _ p.table in
+    let tables = and_parts _ _ p.table in
+    let t = and_parts _ _ tables.0 in
+    let d = and_parts _ _ tables.1 in
     record {
       paragraphs_few = leb-true _ _ l₀.0;
       tokens_few = leb-true _ _ l₁.0;
+      definitions_few = leb-true _ _ l₂.0;
       bulk_few = leb-true _ _ l₂.1;
       bytes_long = p.bytes_enough;
       rest_long = omega (arith, p.numbers_enough);
-      paragraphs_within = leb-true _ _ c₀.0;
-      size_within = leb-true _ _ c₁.0;
-      bytes_within = leb-true _ _ c₁.1;
+      within = within_parts _ _ _ p.counts;
       bytes_add_up = eqb-true _ _ t.0;
       sizes_add_up = eqb-true _ _ t.1;
+      defined_bytes_add_up = eqb-true _ _ d.0;
+      defined_sizes_add_up = eqb-true _ _ d.1;
     }
 
-numbers_of : (ts rs : List ℕ) (k : Kept) (es : List (List ℕ)) → OpenBook ts rs k es → NumbersOf ts rs k
+pub numbers_of : (ts rs : List ℕ) (k : Kept) (es : List (List ℕ)) → OpenBook ts rs k es → NumbersOf ts rs k
 numbers_of ts rs k es b = rw b.same (numbers_at ts rs b.opened)
 
 -- what goes lies within what there is
@@ -71,55 +73,50 @@ within_all first at gone n total rs e h =
 
 -- what is known of a replacement of paragraphs that are there
 pub replaces :
-    (ts rs : List ℕ) (k : Kept) (es : List (List ℕ)) (before part : Counts) (c : Replacement) → OpenBook ts rs k es → c.at + c.gone ≤ k.counts.paragraphs →
+    (ts rs : List ℕ) (k : Kept) (es : List (List ℕ)) (before part : Counts) (c : Replacement) → OpenBook ts rs k es → c.at + c.gone ≤ k.paragraphs.entries →
     before ≡ counts_in (take c.at es) → part ≡ counts_in (take (c.at + c.gone - c.at) (drop c.at es)) → Replaces ts rs k before part c
+unfolding entries_at
 replaces ts rs k es before part c book h f g =
     let n : NumbersOf ts rs k = numbers_of ts rs k es book in
-    let b = within_all 64 c.at c.gone k.counts.paragraphs k.counts.bytes rs n.bytes_add_up h in
-    let s = within_all 65 c.at c.gone k.counts.paragraphs k.counts.size rs n.sizes_add_up h in
-    let many : k.counts.paragraphs ≡ get_or rs 4 0 = ap (λ j. j.counts.paragraphs) book.same in
+    let b = within_all 64 c.at c.gone k.paragraphs.entries k.paragraphs.bytes rs n.bytes_add_up h in
+    let s = within_all 65 c.at c.gone k.paragraphs.entries k.paragraphs.size rs n.sizes_add_up h in
+    let many : k.paragraphs.entries ≡ get_or rs 4 0 = ap (λ j. j.paragraphs.entries) book.same in
     let left : c.at + c.gone - c.at ≡ c.gone = omega arith in
     let taken : take (c.at + c.gone - c.at) (drop c.at es) ≡ take c.gone (drop c.at (entries_at rs)) = ap₂ (λ m xs. take m (drop c.at xs)) left book.entries in
     let front : before.bytes ≡ table_sum 64 c.at rs =
-    ap (λ x. x.bytes) f ∙ (ap (λ xs. min (sum_by (λ x. get_or x 0 0) (take c.at xs)) largest) book.entries ∙ omega (arith, sum_front 0 c.at rs (lit< tt) (omega arith))) in
+    ap (λ x. x.bytes) f ∙ (ap (λ xs. min (sum_by (λ x. get_or x 0 0) (take c.at xs)) largest) book.entries ∙ omega (arith, sum_front 64 (get_or rs 4 0) rs 0 c.at (lit< tt) (omega arith))) in
     let bytes : part.bytes ≡ table_sum 64 (c.at + c.gone) rs - table_sum 64 c.at rs =
-    ap (λ x. x.bytes) g ∙ (ap (λ xs. min (sum_by (λ x. get_or x 0 0) xs) largest) taken ∙ omega (arith, sum_part 0 c.at c.gone rs (lit< tt) (omega arith))) in
+    ap (λ x. x.bytes) g ∙ (ap (λ xs. min (sum_by (λ x. get_or x 0 0) xs) largest) taken ∙ omega (arith, sum_part 64 (get_or rs 4 0) rs 0 c.at c.gone (lit< tt) (omega arith))) in
     let size : part.size ≡ table_sum 65 (c.at + c.gone) rs - table_sum 65 c.at rs =
-    ap (λ x. x.size) g ∙ (ap (λ xs. min (sum_by (λ x. get_or x 1 0) xs) largest) taken ∙ omega (arith, sum_part 1 c.at c.gone rs (lit< tt) (omega arith))) in
+    ap (λ x. x.size) g ∙ (ap (λ xs. min (sum_by (λ x. get_or x 1 0) xs) largest) taken ∙ omega (arith, sum_part 64 (get_or rs 4 0) rs 1 c.at c.gone (lit< tt) (omega arith))) in
     record {
       opened = book.opened;
       same = book.same;
       there = h;
-      paragraphs_before = ap (λ x. x.paragraphs) f ∙ (ap (λ xs. length (take c.at xs)) book.entries ∙ length-take-le c.at (entries_at rs) (omega (arith, length_entries rs)));
-      paragraphs_gone = ap (λ x. x.paragraphs) g ∙ (ap length taken ∙ length-take-le c.gone (drop c.at (entries_at rs)) (omega (arith, length-drop c.at (entries_at rs), length_entries rs)));
+      paragraphs_before = ap (λ x. x.entries) f ∙ (ap (λ xs. length (take c.at xs)) book.entries ∙ length-take-le c.at (entries_at rs) (omega (arith, length_entries rs)));
+      paragraphs_gone = ap (λ x. x.entries) g ∙ (ap length taken ∙ length-take-le c.gone (drop c.at (entries_at rs)) (omega (arith, length-drop c.at (entries_at rs), length_entries rs)));
       bytes_before = front;
       bytes_gone = omega arith;
       size_gone = omega arith;
       bytes_within = omega arith;
       size_within = omega arith;
-      size_few = omega arith;
-      bytes_few = omega arith;
+      size_few = omega (arith, n.within.sizes);
+      bytes_few = n.within.bytes;
       tokens_few = n.tokens_few;
       paragraphs_few = n.paragraphs_few;
-      paragraphs_within = n.paragraphs_within;
+      paragraphs_within = n.within.paragraphs;
       bulk_few = n.bulk_few;
       tokens_long = n.bytes_long;
-      rest_long = n.rest_long;
+      rest_long = omega (arith, n.rest_long);
     }
-
-pub within_parts : (n : Counts) (l : Limits) → true ≡ counts_within n l → (n.paragraphs ≤ l.paragraphs) × (n.size ≤ l.tokens) × (n.bytes ≤ 2 * l.tokens)
-within_parts n l e =
-    let a = and_parts (leb n.paragraphs l.paragraphs) _ (sym e) in
-    let b = and_parts (leb n.size l.tokens) _ a.1 in
-    (leb-true _ _ a.0, leb-true _ _ b.0, leb-true _ _ b.1)
 
 -- an edit that was made
 module _ (ts rs ts' rs' : List ℕ) (e : Edit) (open_book : is_open (length ts) rs ≡ true) where
   pub made_at :
-      e.at + e.gone ≤ get_or rs 4 0 → e.bulk ≤ get_or rs 3 0 → paragraphs_after e rs ≤ get_or rs 0 0 → size_after e rs ≤ get_or rs 1 0 → bytes_after e rs ≤ 2 * get_or rs 1 0 →
+      e.at + e.gone ≤ get_or rs 4 0 → e.bulk ≤ get_or rs 3 0 → counts_within (counts_after e rs) (definitions_at rs) (limits_at rs) ≡ true →
       ts' ≡ edited_tokens e ts rs → rs' ≡ edited_rest e rs → Changes e ts rs ts' rs' (Ok tt)
-  made_at there small few size bytes t r =
-      let room : has_room e rs ≡ true = and_from _ _ (and_from _ _ (le-leb _ _ small) (le-leb _ _ few)) (and_from _ _ (le-leb _ _ size) (le-leb _ _ bytes)) in
+  made_at there small few t r =
+      let room : has_room e rs ≡ true = and_from _ _ (le-leb _ _ small) few in
       record {
         value =
             sym (pick_true (is_open (length ts) rs) _ (Err BadOpening) open_book
@@ -136,16 +133,17 @@ tokens_edited e ts rs f g h = rw (f, g, h) refl
 
 -- the counts are written into the header
 pub header_written :
-    (xs hs ys : List ℕ) (p s b : ℕ) → 64 ≤ length xs → hs ≡ take 64 xs → ys ≡ set (set (set hs 4 p) 5 s) 6 b → ys ++ drop 64 xs ≡ set (set (set xs 4 p) 5 s) 6 b
-header_written xs hs ys p s b long cut written =
+    (at : ℕ) (xs hs ys : List ℕ) (p s b : ℕ) → at + 3 ≤ 64 → 64 ≤ length xs → hs ≡ take 64 xs → ys ≡ set (set (set hs at p) (at + 1) s) (at + 2) b →
+    ys ++ drop 64 xs ≡ set (set (set xs at p) (at + 1) s) (at + 2) b
+header_written at xs hs ys p s b room long cut written =
     let h : List ℕ = take 64 xs in
     let t : List ℕ = drop 64 xs in
     let n : length h ≡ 64 = length-take-le 64 xs long in
-    ap (λ zs. zs ++ t) (written ∙ ap (λ zs. set (set (set zs 4 p) 5 s) 6 b) cut)
-    ∙ sym (ap (λ zs. set (set (set zs 4 p) 5 s) 6 b) (sym (take-append-drop 64 xs))
-    ∙ (ap (λ zs. set (set zs 5 s) 6 b) (set-append_left h t 4 p (omega arith))
-    ∙ (ap (λ zs. set zs 6 b) (set-append_left (set h 4 p) t 5 s (omega (arith, length-set h 4 p)))
-    ∙ set-append_left (set (set h 4 p) 5 s) t 6 b (omega (arith, length-set (set h 4 p) 5 s, length-set h 4 p)))))
+    ap (λ zs. zs ++ t) (written ∙ ap (λ zs. set (set (set zs at p) (at + 1) s) (at + 2) b) cut)
+    ∙ sym (ap (λ zs. set (set (set zs at p) (at + 1) s) (at + 2) b) (sym (take-append-drop 64 xs))
+    ∙ (ap (λ zs. set (set zs (at + 1) s) (at + 2) b) (set-append_left h t at p (omega arith))
+    ∙ (ap (λ zs. set zs (at + 2) b) (set-append_left (set h at p) t (at + 1) s (omega (arith, length-set h at p)))
+    ∙ set-append_left (set (set h at p) (at + 1) s) t (at + 2) b (omega (arith, length-set (set h at p) (at + 1) s, length-set h at p)))))
 
 pub rest_edited :
     (c : Replacement) (rs xs : List ℕ) {flat : List ℕ} {start stop end p s b : ℕ} → xs ≡ replaced 0 rs start (stop - start) (end - stop) flat → start ≡ 64 + 4 * c.at → stop ≡ 64 + 4 * (c.at + c.gone) →

@@ -40,7 +40,7 @@ table_sum_front first (suc n) rs =
     omega (arith, table_sum_more first (n + 1) rs, table_sum_more (first + 4) n rs, table_sum_front first n rs)
 
 -- a field of the entries, added up
-sum_of_entries : (first j n : ℕ) (rs : List ℕ) → j < 4 → sum_by (λ e. get_or e j 0) (first_chunks 4 n (drop first rs)) ≡ table_sum (first + j) n rs
+pub sum_of_entries : (first j n : ℕ) (rs : List ℕ) → j < 4 → sum_by (λ e. get_or e j 0) (first_chunks 4 n (drop first rs)) ≡ table_sum (first + j) n rs
 unfolding table_sum
 sum_of_entries first j zero rs h = refl
 sum_of_entries first j (suc n) rs h =
@@ -61,26 +61,27 @@ length_chunks : (n m : ℕ) (xs : List ℕ) → length (first_chunks n m xs) ≡
 length_chunks n zero xs = refl
 length_chunks n (suc m) xs = ap suc (length_chunks n m (drop n xs))
 
+pub length_table : (first n : ℕ) (rs : List ℕ) → length (first_chunks 4 n (drop first rs)) ≡ n
+length_table first n rs = length_chunks 4 n (drop first rs)
+
 pub length_entries : (rs : List ℕ) → length (entries_at rs) ≡ get_or rs 4 0
 unfolding entries_at
 length_entries rs = length_chunks 4 (get_or rs 4 0) (drop 64 rs)
 
-pub sum_entries : (j : ℕ) (rs : List ℕ) → j < 4 → sum_by (λ e. get_or e j 0) (entries_at rs) ≡ table_sum (64 + j) (get_or rs 4 0) rs
-unfolding entries_at
-sum_entries j rs h = sum_of_entries 64 j (get_or rs 4 0) rs h
+-- of the first entries of a table, and of some behind them
+module _ (first n : ℕ) (rs : List ℕ) where
+  abbrev table : List (List ℕ)
+  table = first_chunks 4 n (drop first rs)
 
--- of the first entries, and of some behind them
-pub sum_front : (j a : ℕ) (rs : List ℕ) → j < 4 → a ≤ get_or rs 4 0 → sum_by (λ e. get_or e j 0) (take a (entries_at rs)) ≡ table_sum (64 + j) a rs
-unfolding entries_at
-sum_front j a rs h l = ap (sum_by (λ e. get_or e j 0)) (chunks_take 4 a (get_or rs 4 0) (drop 64 rs) l) ∙ sum_of_entries 64 j a rs h
+  pub sum_front : (j a : ℕ) → j < 4 → a ≤ n → sum_by (λ e. get_or e j 0) (take a (first_chunks 4 n (drop first rs))) ≡ table_sum (first + j) a rs
+  sum_front j a h l = ap (sum_by (λ e. get_or e j 0)) (chunks_take 4 a n (drop first rs) l) ∙ sum_of_entries first j a rs h
 
-pub sum_part :
-    (j a b : ℕ) (rs : List ℕ) → j < 4 → a + b ≤ get_or rs 4 0 → sum_by (λ e. get_or e j 0) (take b (drop a (entries_at rs))) ≡ table_sum (64 + j) (a + b) rs - table_sum (64 + j) a rs
-sum_part j a b rs h l =
-    let f : List ℕ → ℕ = λ e. get_or e j 0 in
-    let es : List (List ℕ) = entries_at rs in
-    let split : sum_by f (take (a + b) es) ≡ sum_by f (take a es) + sum_by f (take b (drop a es)) = ap (sum_by f) (take-add a b es) ∙ sum_by-append f (take a es) (take b (drop a es)) in
-    omega (arith, sum_front j a rs h (omega arith), sum_front j (a + b) rs h l)
+  pub sum_part : (j a b : ℕ) → j < 4 → a + b ≤ n → sum_by (λ e. get_or e j 0) (take b (drop a (first_chunks 4 n (drop first rs)))) ≡ table_sum (first + j) (a + b) rs - table_sum (first + j) a rs
+  sum_part j a b h l =
+      let f : List ℕ → ℕ = λ e. get_or e j 0 in
+      let split : sum_by f (take (a + b) table) ≡ sum_by f (take a table) + sum_by f (take b (drop a table)) =
+      ap (sum_by f) (take-add a b table) ∙ sum_by-append f (take a table) (take b (drop a table)) in
+      omega (arith, sum_front j a h (omega arith), sum_front j (a + b) h l)
 
 -- what stands behind a table does not matter to it
 chunks_before : (m k : ℕ) (xs : List ℕ) → 4 * m ≤ k → first_chunks 4 m (take k xs) ≡ first_chunks 4 m xs
@@ -98,10 +99,10 @@ entries_take k rs h =
     let numbers : drop 64 (take k rs) ≡ take (k - 64) (drop 64 rs) = ap (λ j. drop 64 (take j rs)) more ∙ drop-take 64 (k - 64) rs in
     ap₂ (first_chunks 4) number numbers ∙ chunks_before (get_or rs 4 0) (k - 64) (drop 64 rs) (omega arith)
 
--- the entries among all chunks behind the header
+-- the entries among all chunks from where they begin
 pub entries_in_front :
-    (front : List ℕ) (chunks : List (List ℕ)) (n k : ℕ) → k ≡ length front - 64 → chunks ≡ first_chunks 4 (length (take k (drop 64 front)) / 4) (take k (drop 64 front)) → 64 + 4 * n ≤ length front →
-    take n chunks ≡ first_chunks 4 n (drop 64 front)
-entries_in_front front chunks n k long e room =
-    let whole : length (take k (drop 64 front)) ≡ k = length-take-le k (drop 64 front) (omega (arith, length-drop 64 front)) in
-    ap (take n) e ∙ (chunks_take 4 n _ (take k (drop 64 front)) (omega arith) ∙ chunks_before n k (drop 64 front) (omega arith))
+    (first : ℕ) (front : List ℕ) (chunks : List (List ℕ)) (n k : ℕ) → k ≡ length front - first → chunks ≡ first_chunks 4 (length (take k (drop first front)) / 4) (take k (drop first front)) →
+    first + 4 * n ≤ length front → take n chunks ≡ first_chunks 4 n (drop first front)
+entries_in_front first front chunks n k long e room =
+    let whole : length (take k (drop first front)) ≡ k = length-take-le k (drop first front) (omega (arith, length-drop first front)) in
+    ap (take n) e ∙ (chunks_take 4 n _ (take k (drop first front)) (omega arith) ∙ chunks_before n k (drop first front) (omega arith))

@@ -10,7 +10,8 @@ use Rattle.std.specs.Prelude.{◌≡◌, ℕ, ◌+◌, ◌-◌, ◌*◌, max, Bo
 use Rattle.meaning.specs.Text.{pick}
 use Rattle.wire.specs.declared.refusal.Refusal.{Refusal}
 use Rattle.wire.specs.declared.refusal.Refusal.TheVariants.{BadOpening, NoParagraph, TooMuch}
-use Rattle.store.specs.Kept.{table_sum, is_open}
+use Rattle.store.specs.declared.kept.Counts.{Counts}
+use Rattle.store.specs.Kept.{limits_at, definitions_at, counts_within, table_sum, is_open}
 
 -- b numbers from a on give way to new ones; the t numbers behind them follow, and what is freed is 0
 unfoldable pub spliced : List ℕ → ℕ → ℕ → ℕ → List ℕ → List ℕ
@@ -53,10 +54,12 @@ unfoldable pub edited_rest : Edit → List ℕ → List ℕ
 edited_rest e rs =
     slice_set (slice_set (slice_set (spliced rs (64 + 4 * e.at) (4 * e.gone) (4 * (slice_index rs 4 - (e.at + e.gone))) (entry_of e)) 4 (paragraphs_after e rs)) 5 (size_after e rs)) 6 (bytes_after e rs)
 
--- paragraphs, tokens in all, what one paragraph may be, and the bytes' half of memory
+abbrev pub counts_after : Edit → List ℕ → Counts
+counts_after e rs = record { entries = paragraphs_after e rs; size = size_after e rs; bytes = bytes_after e rs }
+
+-- what one paragraph may be, and how much there may be in all
 abbrev pub has_room : Edit → List ℕ → Bool
-has_room e rs =
-    (nat_le e.bulk (slice_index rs 3) && nat_le (paragraphs_after e rs) (slice_index rs 0)) && (nat_le (size_after e rs) (slice_index rs 1) && nat_le (bytes_after e rs) (2 * slice_index rs 1))
+has_room e rs = nat_le e.bulk (slice_index rs 3) && counts_within (counts_after e rs) (definitions_at rs) (limits_at rs)
 
 abbrev pub put_edit : ℕ → List ℕ → ℕ → ℕ → List ℕ → Edit
 put_edit k bs n b rs = record { at = k; gone = pick (nat_lt k (slice_index rs 4)) 1 0; come = 1; bytes = bs; size = n; bulk = b }

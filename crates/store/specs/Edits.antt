@@ -39,8 +39,8 @@ bulk_in (Some new) = new.bulk
 bulk_in None = 0
 
 abbrev pub counts_in_content : Option Content → Counts
-counts_in_content (Some new) = record { paragraphs = 1; size = new.size; bytes = length new.bytes.now }
-counts_in_content None = record { paragraphs = 0; size = 0; bytes = 0 }
+counts_in_content (Some new) = record { entries = 1; size = new.size; bytes = length new.bytes.now }
+counts_in_content None = record { entries = 0; size = 0; bytes = 0 }
 
 abbrev pub bytes_come : Replacement → List ℕ
 bytes_come c = bytes_in c.new
@@ -55,25 +55,25 @@ abbrev pub entry_come : Replacement → Option (List ℕ)
 entry_come c = option_map entry_with c.new
 
 abbrev pub edit_in : Replacement → Changes.Edit
-edit_in c = record { at = c.at; gone = c.gone; come = (counts_come c).paragraphs; bytes = bytes_come c; size = (counts_come c).size; bulk = bulk_come c }
+edit_in c = record { at = c.at; gone = c.gone; come = (counts_come c).entries; bytes = bytes_come c; size = (counts_come c).size; bulk = bulk_come c }
 
 -- what a replacement is made from: an open book, what is kept of it, and the counts of what stands before the place and of what goes
 pub record Replaces (ts rs : List ℕ) (k : Kept) (before part : Counts) (c : Replacement) : Type 0 where
   pub opened : is_open (length ts) rs ≡ true
   pub same : k ≡ kept_at rs
-  pub there : c.at + c.gone ≤ k.counts.paragraphs
-  pub paragraphs_before : before.paragraphs ≡ c.at
-  pub paragraphs_gone : part.paragraphs ≡ c.gone
+  pub there : c.at + c.gone ≤ k.paragraphs.entries
+  pub paragraphs_before : before.entries ≡ c.at
+  pub paragraphs_gone : part.entries ≡ c.gone
   pub bytes_before : before.bytes ≡ table_sum 64 c.at rs
   pub bytes_gone : before.bytes + part.bytes ≡ table_sum 64 (c.at + c.gone) rs
   pub size_gone : table_sum 65 c.at rs + part.size ≡ table_sum 65 (c.at + c.gone) rs
-  pub bytes_within : before.bytes + part.bytes ≤ k.counts.bytes
-  pub size_within : part.size ≤ k.counts.size
-  pub size_few : k.counts.size ≤ k.limits.tokens
-  pub bytes_few : k.counts.bytes ≤ 2 * k.limits.tokens
+  pub bytes_within : before.bytes + part.bytes ≤ k.paragraphs.bytes
+  pub size_within : part.size ≤ k.paragraphs.size
+  pub size_few : k.paragraphs.size ≤ k.limits.tokens
+  pub bytes_few : k.paragraphs.bytes ≤ 2 * k.limits.tokens
   pub tokens_few : k.limits.tokens ≤ 65536
   pub paragraphs_few : k.limits.paragraphs ≤ 4096
-  pub paragraphs_within : k.counts.paragraphs ≤ k.limits.paragraphs
+  pub paragraphs_within : k.paragraphs.entries ≤ k.limits.paragraphs
   pub bulk_few : k.limits.bulk ≤ 4096
   pub tokens_long : 4 * k.limits.tokens ≤ length ts
   pub rest_long : 4096 + 8 * k.limits.paragraphs ≤ length rs

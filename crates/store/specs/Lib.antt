@@ -2,6 +2,9 @@ pub mod Opened
 pub mod Kept
 pub mod Counted
 pub mod Paragraphs
+pub mod Defined
 pub mod Changes
 pub mod Splices
+pub mod Defines
+pub mod Definitions
 pub mod Edits

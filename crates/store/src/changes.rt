@@ -3,6 +3,7 @@ ghost use Rattle.std.specs.Prelude.{◌≡◌, ◌≤◌, length, slice_set};
 ghost use Rattle.store.specs.Changes.{Changes};
 ghost use Rattle.store.specs.Edits.{edit_by, replacement_by, edit_in, entry_with, bytes_come, bulk_come, counts_come, entry_come, Replaces};
 
+use crate::header::PARAGRAPHS;
 use crate::kept::{Counts, Entry, Kept, entry_start, open_book};
 use crate::splice::splice;
 use wire::Refusal;
@@ -24,11 +25,11 @@ impl From<Content<'_>> for Entry {
 }
 
 impl From<Content<'_>> for Counts {
-    ghost from_gives = { λ content counts. counts ≡ record { paragraphs = 1; size = content.size; bytes = length content.bytes.now } };
+    ghost from_gives = { λ content counts. counts ≡ record { entries = 1; size = content.size; bytes = length content.bytes.now } };
 
     fn from(content: Content<'_>) -> Counts {
         Counts {
-            paragraphs: 1,
+            entries: 1,
             size: content.size,
             bytes: content.bytes.len(),
         }
@@ -122,14 +123,18 @@ fn make(
         return Err(Refusal::TooMuch);
     }
     let come = replacement.come();
-    let counts = kept.counts;
+    let counts = kept.paragraphs;
     // Field by field: an `Add` of counts would have no place to say that its sums fit. A size that is too large to tell is too much.
     let after = Counts {
-        paragraphs: counts.paragraphs - gone.paragraphs + come.paragraphs,
+        entries: counts.entries - gone.entries + come.entries,
         size: (counts.size - gone.size).saturating_add(come.size),
         bytes: counts.bytes - gone.bytes + come.bytes,
     };
-    if !after.within(kept.limits) {
+    let kept_then = Kept {
+        paragraphs: after,
+        ..kept
+    };
+    if !kept_then.within_limits() {
         return Err(Refusal::TooMuch);
     }
     splice(
@@ -143,12 +148,12 @@ fn make(
     let entry = replacement.entry();
     splice(
         rest,
-        entry_start(before.paragraphs)..entry_start(before.paragraphs + gone.paragraphs),
-        entry_start(counts.paragraphs),
+        entry_start(before.entries)..entry_start(before.entries + gone.entries),
+        entry_start(counts.entries),
         entry.as_slice().as_flattened(),
         0,
     );
-    after.write(rest.first_chunk_mut().unwrap());
+    after.write(rest.first_chunk_mut().unwrap(), PARAGRAPHS);
     Ok(())
 }
 
@@ -157,9 +162,9 @@ pub fn change(tokens: &mut [u8], rest: &mut [u64], edit: Edit<'_>) -> Result<(),
     ensures { Changes (edit_by edit.entry rest.old) tokens.old rest.old tokens.new rest.new result }
 {
     let (kept, entries) = open_book(tokens, rest).ok_or(Refusal::BadOpening)?;
-    let replacement = edit.replacement(kept.counts.paragraphs);
+    let replacement = edit.replacement(kept.paragraphs.entries);
     let Replacement { at, gone, .. } = replacement;
-    if at + gone > kept.counts.paragraphs {
+    if at + gone > kept.paragraphs.entries {
         return Err(Refusal::NoParagraph(at as u32));
     }
     let before = Counts::of(&entries[..at]);

@@ -11,10 +11,12 @@ use wire::LETTERS;
 
 pub(crate) const HEADER: usize = 64;
 
-// Where the parts begin. Behind the counts stand three numbers for definitions, 0 yet, and behind the widths there is nothing.
+// Where the parts begin. Behind the widths there is nothing.
 const LIMITS: usize = 0;
 
-const COUNTS: usize = 4;
+pub(crate) const PARAGRAPHS: usize = 4;
+
+pub(crate) const DEFINITIONS: usize = 7;
 
 const PAGE: usize = 10;
 
@@ -59,11 +61,11 @@ impl Limits {
 }
 
 impl From<Counts> for [u64; 3] {
-    ghost from_gives = { λ counts numbers. numbers ≡ counts.paragraphs ∷ (counts.size ∷ (counts.bytes ∷ [])) };
+    ghost from_gives = { λ counts numbers. numbers ≡ counts.entries ∷ (counts.size ∷ (counts.bytes ∷ [])) };
 
     fn from(counts: Counts) -> [u64; 3] {
         [
-            counts.paragraphs as u64,
+            counts.entries as u64,
             counts.size as u64,
             counts.bytes as u64,
         ]
@@ -71,12 +73,12 @@ impl From<Counts> for [u64; 3] {
 }
 
 impl From<&[u64; 3]> for Counts {
-    ghost from_gives = { λ numbers counts. counts ≡ record { paragraphs = slice_index numbers.now 0; size = slice_index numbers.now 1; bytes = slice_index numbers.now 2 } };
+    ghost from_gives = { λ numbers counts. counts ≡ record { entries = slice_index numbers.now 0; size = slice_index numbers.now 1; bytes = slice_index numbers.now 2 } };
 
     fn from(numbers: &[u64; 3]) -> Counts {
-        let [paragraphs, size, bytes] = *numbers;
+        let [entries, size, bytes] = *numbers;
         Counts {
-            paragraphs: paragraphs as usize,
+            entries: entries as usize,
             size: size as usize,
             bytes: bytes as usize,
         }
@@ -84,10 +86,12 @@ impl From<&[u64; 3]> for Counts {
 }
 
 impl Counts {
-    pub(crate) fn write(self, header: &mut [u64; HEADER])
-        ensures { header.new ≡ slice_set (slice_set (slice_set header.old 4 self.paragraphs) 5 self.size) 6 self.bytes }
+    // Of paragraphs or definitions, where the header has them.
+    pub(crate) fn write(self, header: &mut [u64; HEADER], at: usize)
+        requires { at + 3 ≤ 64 }
+        ensures { header.new ≡ slice_set (slice_set (slice_set header.old at self.entries) (at + 1) self.size) (at + 2) self.bytes }
     {
-        header[COUNTS..COUNTS + 3].copy_from_slice(&<[u64; 3]>::from(self));
+        header[at..at + 3].copy_from_slice(&<[u64; 3]>::from(self));
     }
 }
 
@@ -145,7 +149,8 @@ impl Kept {
         Some(Kept {
             limits: Limits::of(part(header, LIMITS))?,
             looks: Looks::of(part(header, PAGE), part(header, WIDTHS))?,
-            counts: Counts::from(part(header, COUNTS)),
+            paragraphs: Counts::from(part(header, PARAGRAPHS)),
+            definitions: Counts::from(part(header, DEFINITIONS)),
         })
     }
 }

@@ -1,10 +1,10 @@
-// What is kept of an open book: its limits and looks, how much it holds, and an entry of four numbers for each paragraph.
+// What is kept of an open book: its limits and looks, how much it holds, and an entry of four numbers for each paragraph and definition.
 ghost use Rattle.std.specs.Prelude.{◌≡◌, ◌+◌, ◌*◌, ◌^◌, ◌<◌, ◌≤◌, length, drop, false, Some, None, MatchOption};
 ghost use Rattle.std.specs.Simd.{first_chunks};
 ghost use Rattle.meaning.specs.Text.{pick};
 ghost use Rattle.store.specs.Opened.{limits_of, kept_asked};
-ghost use Rattle.store.specs.Kept.{kept_at, is_open};
-ghost use Rattle.store.specs.Counted.{counts_in, counts_within, OpenBook};
+ghost use Rattle.store.specs.Kept.{kept_at, counts_within, is_open};
+ghost use Rattle.store.specs.Counted.{counts_in, OpenBook};
 
 use crate::header::HEADER;
 use crate::opening::{Limits, Looks};
@@ -13,21 +13,22 @@ use crate::opening::{Limits, Looks};
 pub struct Kept {
     pub limits: Limits,
     pub looks: Looks,
-    pub counts: Counts,
+    pub paragraphs: Counts,
+    pub definitions: Counts,
 }
 
-// How many paragraphs, what size in tokens and how many bytes there are together.
+// How many paragraphs or definitions there are, of what size in tokens and of how many bytes together.
 #[derive(Clone, Copy, Debug, Default, PartialEq, Eq)]
 pub struct Counts {
-    pub paragraphs: usize,
+    pub entries: usize,
     pub size: usize,
     pub bytes: usize,
 }
 
 // How many numbers an entry has.
-const ENTRY: usize = 4;
+pub(crate) const ENTRY: usize = 4;
 
-// A paragraph's bytes, its size, and two numbers that are 0.
+// How many bytes its tokens have, their size, of a definition its number, and 0.
 pub type Entry = [u64; ENTRY];
 
 // Where the entry of paragraph k begins.
@@ -50,24 +51,33 @@ impl Counts {
             size = size.saturating_add(*its_size as usize);
         }
         Counts {
-            paragraphs: entries.len(),
+            entries: entries.len(),
             size,
             bytes,
         }
     }
-
-    pub(crate) fn within(self, limits: Limits) -> bool
-        ensures { result ≡ counts_within self limits }
-    {
-        let tokens = limits.tokens as usize;
-        self.paragraphs <= limits.paragraphs as usize
-            && self.size <= tokens
-            && self.bytes <= 2 * tokens
-    }
 }
 
 impl Kept {
-    // How many numbers the header and the entries have at most; behind them is the working part.
+    // Sizes may be any numbers here, and a sum that is too large to tell is too much.
+    pub(crate) fn within_limits(&self) -> bool
+        ensures { result ≡ counts_within self.now.paragraphs self.now.definitions self.now.limits }
+    {
+        let Kept {
+            limits,
+            paragraphs,
+            definitions,
+            ..
+        } = self;
+        let tokens = limits.tokens as usize;
+        paragraphs.entries <= limits.paragraphs as usize
+            && definitions.entries <= limits.definitions as usize
+            && paragraphs.size.saturating_add(definitions.size) <= tokens
+            && paragraphs.bytes <= 2 * tokens
+            && definitions.bytes <= 2 * tokens
+    }
+
+    // How many numbers the header and the paragraphs' entries have at most.
     pub fn front(&self) -> usize
         ensures { result ≡ kept_asked (limits_of self.now.limits) }
     {
@@ -76,11 +86,20 @@ impl Kept {
 
     // The paragraphs' entries, behind the header.
     pub fn entries<'a>(&self, front: &'a [u64]) -> &'a [Entry]
-        requires { 64 + 4 * self.now.counts.paragraphs ≤ length front.now }
-        ensures { result.now ≡ first_chunks 4 self.now.counts.paragraphs (drop 64 front.now) }
+        requires { 64 + 4 * self.now.paragraphs.entries ≤ length front.now }
+        ensures { result.now ≡ first_chunks 4 self.now.paragraphs.entries (drop 64 front.now) }
     {
         let (entries, _) = front[HEADER..].as_chunks();
-        &entries[..self.counts.paragraphs]
+        &entries[..self.paragraphs.entries]
+    }
+
+    // The definitions' entries, behind those of all paragraphs that there may be.
+    pub fn defined<'a>(&self, front: &'a [u64]) -> &'a [Entry]
+        requires { 64 + 4 * self.now.limits.paragraphs + 4 * self.now.definitions.entries ≤ length front.now }
+        ensures { result.now ≡ first_chunks 4 self.now.definitions.entries (drop (64 + 4 * self.now.limits.paragraphs) front.now) }
+    {
+        let (entries, _) = front[self.front()..].as_chunks();
+        &entries[..self.definitions.entries]
     }
 }
 
@@ -93,11 +112,14 @@ pub(crate) fn open_book<'a>(tokens: &[u8], rest: &'a [u64]) -> Option<(Kept, &'a
     if tokens.len() < limits.bytes_asked() || rest.len() < limits.rest_asked() {
         return None;
     }
-    if !kept.counts.within(limits) {
+    if !kept.within_limits() {
         return None;
     }
     let entries = kept.entries(rest);
-    if Counts::of(entries) != kept.counts {
+    if Counts::of(entries) != kept.paragraphs {
+        return None;
+    }
+    if Counts::of(kept.defined(rest)) != kept.definitions {
         return None;
     }
     Some((kept, entries))

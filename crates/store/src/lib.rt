@@ -4,6 +4,8 @@
 #![tactic(auto)]
 
 mod changes;
+mod defining;
+mod definitions;
 mod header;
 mod kept;
 mod opening;
@@ -11,6 +13,8 @@ mod paragraphs;
 mod splice;
 
 pub use changes::{Content, Edit, change};
+pub use defining::{Definition, define};
+pub use definitions::{Defined, Definitions};
 pub use header::widths;
 pub use kept::{Counts, Entry, Kept, look};
 pub use opening::{Asked, Limits, Looks, Opening, open, opening_is_sound};

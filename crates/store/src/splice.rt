@@ -1,7 +1,7 @@
 // Elements of a lent slice that give way to others; what stands behind them moves up or down.
 ghost use Rattle.std.specs.Prelude.{◌≡◌, ◌+◌, ◌-◌, ◌≤◌, length, replicate};
 ghost use Rattle.std.specs.List.{copy_within};
-ghost use Rattle.store.specs.Splices.{replaced, FitsSplice};
+ghost use Rattle.store.specs.Splices.{replaced, replaced_last, FitsSplice};
 
 use std::ops::Range;
 
@@ -35,4 +35,16 @@ pub(crate) fn splice<T: Copy>(xs: &mut [T], gone: Range<usize>, end: usize, new:
     shift(xs, gone.end..end, behind);
     wipe(&mut xs[left..left.max(end)], blank);
     xs[gone.start..behind].copy_from_slice(new);
+}
+
+// What is `gone` goes, those behind it, up to `end`, follow, and the new elements stand behind them; what is freed is blank.
+pub(crate) fn put_last<T: Copy>(xs: &mut [T], gone: Range<usize>, end: usize, new: &[T], blank: T)
+    requires { FitsSplice (length xs.old) gone.start gone.end end (length new.now) }
+    ensures { xs.new ≡ replaced_last blank xs.old gone.start (gone.end - gone.start) (end - gone.end) new.now }
+{
+    let behind = gone.start + (end - gone.end);
+    let last = behind + new.len();
+    shift(xs, gone.end..end, gone.start);
+    wipe(&mut xs[last..last.max(end)], blank);
+    xs[behind..last].copy_from_slice(new);
 }

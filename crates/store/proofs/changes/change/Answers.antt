@@ -15,5 +15,5 @@ make-requires c =
 pub returns : goal.returns
 returns c =
     let book = found c.open_book.ensures c.ok_or.ensures.ok_part c.in_ok-kept.was in
-    let same = ap edit_in c.replacement-replacement.ensures ∙ edit_made c.args.edit c.args.rest.now _ (ap (λ k. k.counts.paragraphs) book.same) in
+    let same = ap edit_in c.replacement-replacement.ensures ∙ edit_made c.args.edit c.args.rest.now _ (ap (λ k. k.paragraphs.entries) book.same) in
     subst (λ e. Changes e c.args.tokens.now c.args.rest.now c.make.new.tokens c.make.new.rest c.make.result) same c.make.ensures

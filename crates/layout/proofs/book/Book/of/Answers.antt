@@ -6,9 +6,9 @@ use Rattle.store.specs.declared.kept.Kept.{Kept}
 use Rattle.layout.proofs.OpenBooks.{sheet_of}
 use Rattle.layout.proofs.book.Book.of.Goals as goal
 
-entries_there : (front : List ℕ) {es : List (List ℕ)} {k : Kept} → k ≡ kept_at front → es ≡ first_chunks 4 k.counts.paragraphs (drop 64 front) → es ≡ entries_at front
+entries_there : (front : List ℕ) {es : List (List ℕ)} {k : Kept} → k ≡ kept_at front → es ≡ first_chunks 4 k.paragraphs.entries (drop 64 front) → es ≡ entries_at front
 unfolding entries_at
-entries_there front kept given = given ∙ ap (λ (k : Kept). first_chunks 4 k.counts.paragraphs (drop 64 front)) kept
+entries_there front kept given = given ∙ ap (λ (k : Kept). first_chunks 4 k.paragraphs.entries (drop 64 front)) kept
 
 pub returns-clause-sheet : goal.returns-clause-sheet
 returns-clause-sheet c = ap sheet_of c.requires.0.kept
