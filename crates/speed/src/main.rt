@@ -48,32 +48,28 @@ fn best_time<F: FnMut()>(rt: &HostRuntime, mut run: F) -> io::Result<u128>
     Ok(best)
 }
 
-// What lines are counted with: the widths of the letters, and room for atoms and for words.
+// What lines are counted with: the widths of the letters, and room for atoms and for words, which is too much for a small stack.
 #[derive(Drop)]
 struct Desk {
     widths: [u8; LETTERS],
-    atoms: [u64; BULK],
-    slots: [u64; NUMBERS],
+    atoms: Vec<u64>,
+    slots: Vec<u64>,
 }
 
 impl Desk {
-    fn new() -> Desk {
-        Desk {
+    fn new(heap: Global) -> Result<Desk, AllocError> {
+        Ok(Desk {
             widths: widths(),
-            atoms: [0; BULK],
-            slots: [0; NUMBERS],
-        }
+            atoms: vec![in heap; 0u64; BULK]?,
+            slots: vec![in heap; 0u64; NUMBERS]?,
+        })
     }
 
     // None where the paragraph can't be read.
     fn count_lines(&mut self, paragraph: &Paragraph) -> Option<usize> {
-        count_lines(
-            &paragraph.tokens,
-            &mut self.atoms,
-            &mut self.slots,
-            &self.widths,
-            WIDTH,
-        )
+        let atoms: &mut [u64; BULK] = self.atoms.first_chunk_mut()?;
+        let slots: &mut [u64; NUMBERS] = self.slots.first_chunk_mut()?;
+        count_lines(&paragraph.tokens, atoms, slots, &self.widths, WIDTH)
     }
 }
 
@@ -139,7 +135,7 @@ fn report_set(rt: &HostRuntime, set: &Set, desk: &mut Desk, timed: bool) -> io::
 }
 
 fn report_sets(rt: &HostRuntime, timed: bool) -> io::Result<()> {
-    let mut desk = Desk::new();
+    let mut desk = Desk::new(rt.alloc())?;
     for set in &sets(rt.alloc())? {
         report_set(rt, set, &mut desk, timed)?;
     }

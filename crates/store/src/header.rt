@@ -143,6 +143,7 @@ impl Looks {
 
 impl Kept {
     // What a header tells, where its limits and looks are in range; None and no error else, as for these.
+    #[inline(always)]
     pub(crate) fn of(header: &[u64; HEADER]) -> Option<Kept>
         ensures { result ≡ pick (limits_kept header.now && looks_kept header.now) (Some (kept_at header.now)) None }
     {

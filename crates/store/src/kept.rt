@@ -104,6 +104,8 @@ impl Kept {
 }
 
 // What is kept of the book, and its paragraphs' entries, if memory is an open book.
+// This and `Kept::of` go into each caller, so that one which needs no looks has no widths unpacked.
+#[inline(always)]
 pub(crate) fn open_book<'a>(tokens: &[u8], rest: &'a [u64]) -> Option<(Kept, &'a [Entry])>
     ensures { MatchOption result (is_open (length tokens.now) rest.now ≡ false) (λ p. OpenBook tokens.now rest.now p.0 p.1.now) }
 {
