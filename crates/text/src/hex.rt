@@ -10,13 +10,8 @@ use std::alloc::Global;
 fn hex_digit(b: u8) -> Result<u8, Fault>
     ensures { result ≡ hex_digit b }
 {
-    // No `to_digit(16)`: with it a line of many bytes takes twice the time.
-    match b {
-        b'0'..=b'9' => Ok(b - b'0'),
-        b'A'..=b'F' => Ok(b - b'A' + 10),
-        b'a'..=b'f' => Ok(b - b'a' + 10),
-        _ => Err(Fault::NoByte),
-    }
+    let digit = char::from(b).to_digit(16).ok_or(Fault::NoByte)?;
+    Ok(digit as u8)
 }
 
 fn hex_byte(word: &[u8]) -> Result<u8, Fault>
