@@ -3,13 +3,16 @@ use Rattle.std.proofs.Common.{◌≡◌, ℕ, suc, ◌+◌, ◌-◌, ◌<◌, Li
 use Rattle.std.proofs.lemmas.List.{append_assoc, length-append, take_at, drop_at, drop-drop}
 use Rattle.meaning.specs.Text.{none, written, all_written}
 use Rattle.meaning.specs.Text
-use Rattle.wire.specs.Bytes.{Parsed, whole, broken, closed, parsed, parsed_tokens, tokens_of}
+use Rattle.wire.specs.Bytes.{Parsed, whole, broken, closed, token_first, parsed_in, parsed, parsed_tokens, tokens_of}
+use Rattle.wire.specs.Kinds.{token_byte, Numbered}
+use Rattle.wire.specs.declared.kind.TokenKind.{TokenKind}
+use Rattle.wire.specs.declared.kind.TokenKind.TheVariants as Kinds
 use Rattle.wire.specs.declared.token.Token.{Token}
 use Rattle.wire.specs.declared.token.Token.TheVariants.{Note, Command}
 use Rattle.wire.specs.declared.token.Extent.{Extent}
 use Rattle.wire.specs.declared.token.Extent.TheVariants.{End, Close, Break}
 use Rattle.wire.specs.Cut.{extent_in, extent_of, enclosed_by, enclosed_in, token_of, WholePart, First}
-use Rattle.wire.proofs.Parses.{parsed_unknown, parsed_note, parsed_command, tokens_of_written, tokens_of_all_written}
+use Rattle.wire.proofs.Parses.{parsed_end, parsed_unknown, parsed_note, parsed_command, tokens_of_written, tokens_of_all_written}
 use Rattle.wire.proofs.Courses.{parsed_whole}
 
 pub first_from_form : (bs : List ℕ) (t : Token) (rest : List ℕ) → bs ≡ written (token_of t) ++ rest → WholePart t → First bs t rest
@@ -73,6 +76,30 @@ enclosed_none bs make e = go (parsed bs) e
 -- bytes that begin as no token does
 pub none_first : (bs : List ℕ) (x : ℕ) (rest : List ℕ) → bs ≡ x ∷ rest → 7 < x → tokens_of bs ≡ none
 none_first bs x rest e h = ap tokens_of e ∙ ap parsed_tokens (parsed_unknown x rest h)
+
+-- a letter or a number that is missing
+pub number_missing : (k : TokenKind) → Numbered k → tokens_of (token_byte k ∷ []) ≡ none
+unfolding parsed_in token_first
+number_missing Kinds.Letter n = refl
+number_missing Kinds.Space n = absurd (n.0 refl)
+number_missing Kinds.Mark n = refl
+number_missing Kinds.PageOf n = refl
+number_missing Kinds.Note n = absurd (n.1 refl)
+number_missing Kinds.Command n = refl
+number_missing Kinds.Given n = absurd (n.2 refl)
+number_missing Kinds.End n = refl
+
+-- what is left of the kinds is the end byte
+pub end_first : (k : TokenKind) (rest : List ℕ) → Numbered k → (k ≡ Kinds.Letter → ⊥) → (k ≡ Kinds.Mark → ⊥) → (k ≡ Kinds.PageOf → ⊥) → (k ≡ Kinds.Command → ⊥) →
+    tokens_of (token_byte k ∷ rest) ≡ none
+end_first Kinds.Letter rest n a b c d = absurd (a refl)
+end_first Kinds.Space rest n a b c d = absurd (n.0 refl)
+end_first Kinds.Mark rest n a b c d = absurd (b refl)
+end_first Kinds.PageOf rest n a b c d = absurd (c refl)
+end_first Kinds.Note rest n a b c d = absurd (n.1 refl)
+end_first Kinds.Command rest n a b c d = absurd (d refl)
+end_first Kinds.Given rest n a b c d = absurd (n.2 refl)
+end_first Kinds.End rest n a b c d = ap parsed_tokens (parsed_end rest)
 
 -- a note or a command that is not closed
 pub note_unclosed : (rest : List ℕ) → None ≡ enclosed_in rest → tokens_of (4 ∷ rest) ≡ none

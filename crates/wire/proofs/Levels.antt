@@ -1,7 +1,6 @@
 -- Tokens scanned by their bytes, with a count of how many notes and commands are open.
 use Rattle.std.proofs.Common.{◌≡◌, ℕ, zero, suc, ◌+◌, ◌-◌, ◌<◌, ◌≤◌, List, [], ◌∷◌, length, get_or, drop, ◌⊎◌, sym, refl, ap, ◌∙◌, ap₂, inl, inr, add-one, arith}
-use Rattle.std.specs.List.{between}
-use Rattle.std.proofs.lemmas.List.{drop_more, take_rest}
+use Rattle.std.proofs.lemmas.List.{drop_more}
 use Rattle.meaning.specs.Text.{Token, Tokens, none, letter, space, mark, page_of, note, command, given}
 use Rattle.wire.specs.Bytes.{Parsed, whole, broken, before, closed, token_first, parsed_in, parsed}
 use Rattle.wire.specs.Cut.{extent_in, extent_of}
@@ -171,19 +170,13 @@ module _ (bs rest : List ℕ) (d : ℕ) (so_far : level d rest ≡ level 0 bs) w
       led : rest ≡ token_byte k ∷ drop 1 rest
       led = split ∙ ap (λ x. x ∷ drop 1 rest) (sym is)
 
-      pub passed :
-          (w : ℕ) (behind : List ℕ) → w ≡ token_width k → behind ≡ between w (length rest) rest → w ≤ length rest → (k ≡ Kinds.End → 0 < d) →
-          level (depth_behind k d) behind ≡ level 0 bs
-      passed w behind width part fits open_some =
-          let left : behind ≡ drop (token_width k) (token_byte k ∷ drop 1 rest) = part ∙ (take_rest rest w ∙ ap₂ drop width led) in
-          ap (level (depth_behind k d)) left ∙ (sym (step k (drop 1 rest) d (omega (arith, ap length led)) open_some) ∙ (ap (level d) (sym led) ∙ so_far))
+      pub passed : (behind : List ℕ) → (token_width k + length behind ≡ length rest) × (behind ≡ drop (token_width k) rest) → (k ≡ Kinds.End → 0 < d) → level (depth_behind k d) behind ≡ level 0 bs
+      passed behind (fits, part) open_some =
+          let left : behind ≡ drop (token_width k) (token_byte k ∷ drop 1 rest) = part ∙ ap (drop (token_width k)) led in
+          ap (level (depth_behind k d)) left ∙ (sym (step k (drop 1 rest) d (omega (arith, ap length led, fits)) open_some) ∙ (ap (level d) (sym led) ∙ so_far))
 
-      fewer : {a b : ℕ} → (b < a) ⊎ (b < b) → b < a
-      fewer (inl h) = h
-      fewer (inr h) = absurd (omega arith)
-
-      pub missing : (w : ℕ) → w ≡ token_width k → (length rest < w) ⊎ (length rest < length rest) → Break (length bs) ≡ extent_of bs
-      missing w width h = stops_at (breaks []) _ (ap (level d) led ∙ short k (drop 1 rest) d (omega (arith, ap length led, fewer h))) (ap Break (omega arith))
+      pub missing : length rest < token_width k → Break (length bs) ≡ extent_of bs
+      missing h = stops_at (breaks []) _ (ap (level d) led ∙ short k (drop 1 rest) d (omega (arith, ap length led))) (ap Break (omega arith))
 
     pub ends_here : get_or rest 0 0 ≡ 7 → d ≡ 0 → Close (length bs - length rest) ≡ extent_of bs
     unfolding level

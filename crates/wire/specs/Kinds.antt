@@ -1,8 +1,11 @@
 -- The bytes that tokens, calls and answers begin with.
 --   token_byte, call_byte, answer_byte   the byte of a kind
 --   token_width                          how many bytes a kind of token has
+--   Numbered                             no space, no note and not what is given
+--   Behind                               what stands behind so many bytes
 --   TokenByte, CallByte, AnswerByte      the kind that has a byte, or that none has it
-use Rattle.std.specs.Prelude.{◌≡◌, ℕ, ◌<◌, Result, MatchResult}
+use Rattle.std.specs.Prelude.{◌≡◌, ◌≢◌, ℕ, ◌+◌, ◌<◌, List, length, drop, Option, Some, None, Result, MatchResult}
+use Rattle.std.specs.Borrow.{Bor}
 use Rattle.wire.specs.declared.kind.NoKind.{NoKind}
 use Rattle.wire.specs.declared.kind.TokenKind.{TokenKind}
 use Rattle.wire.specs.declared.kind.TokenKind.TheVariants as TokenKinds
@@ -31,6 +34,15 @@ token_width TokenKinds.Note = 1
 token_width TokenKinds.Command = 2
 token_width TokenKinds.Given = 1
 token_width TokenKinds.End = 1
+
+-- no kind that stands for itself, or is followed at once by what it holds
+abbrev pub Numbered : TokenKind → Type 0
+Numbered k = (k ≢ TokenKinds.Space) × (k ≢ TokenKinds.Note) × (k ≢ TokenKinds.Given)
+
+-- what stands behind so many bytes, if they are there
+abbrev pub Behind : ℕ → List ℕ → Option (Bor (List ℕ)) → Type 0
+Behind n bs None = length bs < n
+Behind n bs (Some part) = (n + length part.now ≡ length bs) × (part.now ≡ drop n bs)
 
 abbrev pub call_byte : CallKind → ℕ
 call_byte CallKinds.Put = 0

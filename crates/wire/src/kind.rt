@@ -1,6 +1,6 @@
 // The bytes that tokens, calls and answers begin with, as kinds.
 ghost use Rattle.std.specs.Prelude.{◌≡◌, Some, codes};
-ghost use Rattle.wire.specs.Kinds.{token_byte, token_width, call_byte, answer_byte, TokenByte, CallByte, AnswerByte};
+ghost use Rattle.wire.specs.Kinds.{token_byte, token_width, Behind, call_byte, answer_byte, TokenByte, CallByte, AnswerByte};
 
 use std::error::Error;
 use std::fmt;
@@ -33,13 +33,19 @@ pub enum TokenKind {
 }
 
 impl TokenKind {
-    // How many bytes a token of this kind has; of a note or a command, those before what it holds.
-    pub(crate) fn width(self) -> usize
-        ensures { result ≡ token_width self }
+    // What stands behind the first bytes of a token of this kind, of a note or a command behind those before what it holds; None where one is missing.
+    // It branches, since the next token's byte would wait for a width that is looked up.
+    #[inline(always)]
+    pub(crate) fn behind(self, bytes: &[u8]) -> Option<&[u8]>
+        ensures { Behind (token_width self) bytes.now result }
     {
         match self {
-            TokenKind::Letter | TokenKind::Mark | TokenKind::PageOf | TokenKind::Command => 2,
-            TokenKind::Space | TokenKind::Note | TokenKind::Given | TokenKind::End => 1,
+            TokenKind::Letter | TokenKind::Mark | TokenKind::PageOf | TokenKind::Command => {
+                bytes.get(2..)
+            }
+            TokenKind::Space | TokenKind::Note | TokenKind::Given | TokenKind::End => {
+                bytes.get(1..)
+            }
         }
     }
 }

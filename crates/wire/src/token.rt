@@ -2,7 +2,7 @@
 ghost use Rattle.std.specs.Prelude.{◌≡◌, ◌∷◌, length};
 ghost use Rattle.std.specs.Iterator.{at_most};
 ghost use Rattle.std.specs.Option.{option_map};
-ghost use Rattle.wire.specs.Kinds.{token_byte};
+ghost use Rattle.wire.specs.Kinds.{token_byte, Numbered};
 ghost use Rattle.wire.specs.Cut.{extent_of, enclosed_in, BeginsWith, TakesFirst};
 
 use crate::kind::TokenKind;
@@ -41,7 +41,7 @@ impl Extent {
             let Ok(kind) = TokenKind::try_from(*byte) else {
                 return Extent::Break(at);
             };
-            let Some(behind) = rest.get(kind.width()..) else {
+            let Some(behind) = kind.behind(rest) else {
                 return Extent::Break(bytes.len());
             };
             match kind {
@@ -70,48 +70,42 @@ fn enclosed(bytes: &[u8]) -> Option<(&[u8], &[u8])>
     }
 }
 
-// A token of a kind, by what stands behind its first byte. This, `next_token` and `Tokens` go into each loop over tokens: a token that is handed
-// on in memory takes twice the time.
-#[inline(always)]
-fn read_token(kind: TokenKind, rest: &[u8]) -> Option<(Token<'_>, &[u8])>
-    ensures { BeginsWith (token_byte kind ∷ rest.now) result }
-{
-    match kind {
-        TokenKind::Letter => {
-            let (letter, rest) = rest.split_first()?;
-            Some((Token::Letter(*letter), rest))
-        }
-        TokenKind::Space => Some((Token::Space, rest)),
-        TokenKind::Mark => {
-            let (name, rest) = rest.split_first()?;
-            Some((Token::Mark(*name), rest))
-        }
-        TokenKind::PageOf => {
-            let (name, rest) = rest.split_first()?;
-            Some((Token::PageOf(*name), rest))
-        }
-        TokenKind::Note => {
-            let (inside, rest) = enclosed(rest)?;
-            Some((Token::Note(inside), rest))
-        }
-        TokenKind::Command => {
-            let (name, rest) = rest.split_first()?;
-            let (inside, rest) = enclosed(rest)?;
-            Some((Token::Command(*name, inside), rest))
-        }
-        TokenKind::Given => Some((Token::Given, rest)),
-        TokenKind::End => None,
-    }
-}
-
-// The first token, and what stands behind it; None at the end, and where bytes are no token.
+// The first token, and what stands behind it; None at the end, and where bytes are no token. This, `numbered_token` and `Tokens` go into each loop
+// over tokens: a token that is handed on in memory takes twice the time.
 #[inline(always)]
 pub fn next_token(bytes: &[u8]) -> Option<(Token<'_>, &[u8])>
     ensures { BeginsWith bytes.now result }
 {
     let (byte, rest) = bytes.split_first()?;
-    let kind = TokenKind::try_from(*byte).ok()?;
-    read_token(kind, rest)
+    match TokenKind::try_from(*byte).ok()? {
+        TokenKind::Space => Some((Token::Space, rest)),
+        TokenKind::Note => {
+            let (inside, rest) = enclosed(rest)?;
+            Some((Token::Note(inside), rest))
+        }
+        TokenKind::Given => Some((Token::Given, rest)),
+        kind => numbered_token(kind, rest),
+    }
+}
+
+// A token whose kind is followed by a letter, or by the number of a name or a command; an end byte is none. Were these kinds told apart in one match with
+// the others, a space would take two jumps by tables.
+#[inline(always)]
+fn numbered_token(kind: TokenKind, bytes: &[u8]) -> Option<(Token<'_>, &[u8])>
+    requires { Numbered kind }
+    ensures { BeginsWith (token_byte kind ∷ bytes.now) result }
+{
+    let (number, rest) = bytes.split_first()?;
+    match kind {
+        TokenKind::Letter => Some((Token::Letter(*number), rest)),
+        TokenKind::Mark => Some((Token::Mark(*number), rest)),
+        TokenKind::PageOf => Some((Token::PageOf(*number), rest)),
+        TokenKind::Command => {
+            let (inside, rest) = enclosed(rest)?;
+            Some((Token::Command(*number, inside), rest))
+        }
+        _ => None,
+    }
 }
 
 // The tokens that bytes begin with, one behind another.

@@ -7,34 +7,34 @@ use Rattle.wire.proofs.token.Extent.of.Goals as goal
 pub returns-in_default-try_from : goal.returns-in_default-try_from
 returns-in_default-try_from c = nothing_here _ _ _ c.loop-rest.invariant.1 (omega arith) c.in_default-try_from.ensures
 
-pub returns-in_default-get : goal.returns-in_default-get
-returns-in_default-get c = missing _ _ _ c.loop-rest.invariant.1 (omega arith) c.in-Ok.kind c.in-Ok.ensures _ c.width.ensures c.in_default-get.ensures.lookup.0
+pub returns-in_default-behind : goal.returns-in_default-behind
+returns-in_default-behind c = missing _ _ _ c.loop-rest.invariant.1 (omega arith) c.in-Ok.kind c.in-Ok.ensures c.in_default-behind.ensures
 
 pub returns-in-End : goal.returns-in-End
 returns-in-End c = ends_here _ _ _ c.loop-rest.invariant.1 (omega arith) (sym c.in-Ok.ensures ∙ ap token_byte c.in-End.is) c.if-depth-eq0.true
 
 pub loop-rest-preserved-in-Note : goal.loop-rest-preserved-in-Note
 loop-rest-preserved-in-Note c =
-    let (fits, within, part, long) = c.in-Some.ensures.lookup.0 in (
-      omega (arith, some_width c.in-Ok.kind),
+    let (fits, part) = c.in-Some.ensures in (
+      omega (arith, fits, some_width c.in-Ok.kind),
       ap (λ n. level n c.in-Some.behind.now) (sym (deeper c.in-Ok.kind c.loop-rest.depth c.in-Note.is))
-          ∙ passed _ _ _ c.loop-rest.invariant.1 (omega arith) c.in-Ok.kind c.in-Ok.ensures _ _ c.width.ensures part fits (λ e. absurd (no_end c.in-Ok.kind c.in-Note.is e)),
+          ∙ passed _ _ _ c.loop-rest.invariant.1 (omega arith) c.in-Ok.kind c.in-Ok.ensures _ c.in-Some.ensures (λ e. absurd (no_end c.in-Ok.kind c.in-Note.is e)),
     )
 
 pub loop-rest-preserved-in-End-2 : goal.loop-rest-preserved-in-End-2
 loop-rest-preserved-in-End-2 c =
-    let (fits, within, part, long) = c.in-Some.ensures.lookup.0 in (
-      omega arith,
+    let (fits, part) = c.in-Some.ensures in (
+      omega (arith, fits, some_width c.in-Ok.kind),
       ap (λ k. level (depth_behind k c.loop-rest.depth) c.in-Some.behind.now) (sym c.in-End-2.is)
-          ∙ passed _ _ _ c.loop-rest.invariant.1 (omega arith) c.in-Ok.kind c.in-Ok.ensures _ _ c.width.ensures part fits (λ _. omega (arith, c.if-depth-eq0.false)),
+          ∙ passed _ _ _ c.loop-rest.invariant.1 (omega arith) c.in-Ok.kind c.in-Ok.ensures _ c.in-Some.ensures (λ _. omega (arith, c.if-depth-eq0.false)),
     )
 
 pub loop-rest-preserved : goal.loop-rest-preserved
 loop-rest-preserved c =
-    let (fits, within, part, long) = c.in-Some.ensures.lookup.0 in (
-      omega arith,
+    let (fits, part) = c.in-Some.ensures in (
+      omega (arith, fits, some_width c.in-Ok.kind),
       ap (λ n. level n c.in-Some.behind.now) (sym (as_deep c.in-Ok.kind c.loop-rest.depth c.in_default-kind.not-Note c.in_default-kind.not-Command c.in_default-kind.not-End))
-          ∙ passed _ _ _ c.loop-rest.invariant.1 (omega arith) c.in-Ok.kind c.in-Ok.ensures _ _ c.width.ensures part fits (λ e. absurd (c.in_default-kind.not-End e)),
+          ∙ passed _ _ _ c.loop-rest.invariant.1 (omega arith) c.in-Ok.kind c.in-Ok.ensures _ c.in-Some.ensures (λ e. absurd (c.in_default-kind.not-End e)),
     )
 
 pub returns-then-depth-eq0-2 : goal.returns-then-depth-eq0-2
