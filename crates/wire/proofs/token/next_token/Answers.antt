@@ -22,6 +22,7 @@ pub returns-in_err-kind : goal.returns-in_err-kind
 returns-in_err-kind c =
     rw c.from_residual-in_err-kind.ensures (none_first _ _ _ c.in_ok-byte.ensures.cases.0 (no_kind _ _ c.in_err-kind.ensures.value c.try_from.ensures))
 
+-- bytes whose first one is that of a kind
 front : (bs : List ℕ) (x : ℕ) (rest : List ℕ) (k : TokenKind) (r : Result TokenKind NoKind) → bs ≡ x ∷ rest → Some k ≡ result_ok r → TokenByte x r → bs ≡ token_byte k ∷ rest
 front bs x rest k (Ok kind) e f h = e ∙ ap (λ y. y ∷ rest) (sym h ∙ ap token_byte (sym (same_Some k kind f)))
 front bs x rest k (Err none) e f h = absurd (cc)
